@@ -24,6 +24,9 @@ from .places import EXAMPLES, a_program
 CLIENT, KDC = ("10.0.0.1", 40000), ("10.0.0.88", 88)
 START = 1767225600_000000
 SCRIPT = "<script>alert(1)</script>"
+# By how much the tables of answers are wider than what they stand in.
+WIDER = """const boxes = [...document.querySelectorAll(".scroll")].filter(box => box.querySelector("table"));
+document.title = "wider: " + boxes.map(box => box.scrollWidth - box.clientWidth).join()"""
 CHROMIUM = shutil.which("chromium") or shutil.which("chromium-browser") or shutil.which("google-chrome")
 VOID = {"meta"}
 
@@ -245,14 +248,14 @@ class Pairs(unittest.TestCase):
 
 @unittest.skipUnless(CHROMIUM, "no Chromium")
 class Browser(unittest.TestCase):
-    WORDS = ["--headless=new", "--no-sandbox", "--disable-gpu", "--window-size=1280,900"]
+    WORDS = ["--headless=new", "--no-sandbox", "--disable-gpu"]
 
-    def browse(self, page, word):
-        """What Chromium prints of a page, and the picture that it takes."""
+    def browse(self, page, word, size="1280,900"):
+        """What Chromium prints of a page in a window of a size, and the picture that it takes."""
         with tempfile.TemporaryDirectory() as folder:
             path = pathlib.Path(folder) / "page.html"
             path.write_text(page, encoding="utf-8")
-            words = [*self.WORDS, f"--user-data-dir={folder}/data", word.replace("SHOT", f"{folder}/shot.png")]
+            words = [*self.WORDS, f"--window-size={size}", f"--user-data-dir={folder}/data", word.replace("SHOT", f"{folder}/shot.png")]
             done = subprocess.run([CHROMIUM, *words, path.as_uri()], capture_output=True, timeout=300, check=True)
             shot = pathlib.Path(folder) / "shot.png"
             return done.stdout, shot.read_bytes() if shot.exists() else b""
@@ -267,6 +270,16 @@ class Browser(unittest.TestCase):
         _, shot = self.browse(page_of(str(EXAMPLES / "morning.pcap")), "--screenshot=SHOT")
         self.assertEqual(shot[:8], b"\x89PNG\r\n\x1a\n")
         self.assertGreater(len(shot), 20000)
+
+    def test_columns(self):
+        """Each table of answers fits into a window of 1100 pixels, also one with a long name and an error."""
+        captures = [EXAMPLES / "morning.pcap", EXAMPLES / "../tests/data/captures/made-ended-midway-tcp.capture"]
+        captures += [EXAMPLES / f"recipes/data/{name}.pcap" for name in ("incident", "slow-udp")]
+        for capture in captures:
+            page = re.sub("<meta http-equiv=[^>]*>", "", page_of(str(capture)))
+            page = page.replace("</body>", f"<script>{WIDER}</script></body>")
+            text, _ = self.browse(page, "--dump-dom", "1100,900")
+            self.assertEqual(re.search(rb"<title>(wider:[^<]*)", text)[1], b"wider: 0", capture)
 
     def test_ten_thousand_messages(self):
         """All of them are drawn, and the browser has each."""

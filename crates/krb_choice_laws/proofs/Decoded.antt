@@ -8,16 +8,16 @@ use Rattle.krb_record.specs.Forms.{escaped_if, is_mistaken, item_cell, item_octe
 use Rattle.krb_record.specs.Text.{two_hex}
 
 -- ---- what a text with escapes shows
-data State : Type 0 where
+pub data State : Type 0 where
   Outside : State
   Slash : State
   High : State
   Low : (high : ℕ) → State
 
-abbrev digit : ℕ → ℕ
+abbrev pub digit : ℕ → ℕ
 digit c = if nat_le c 57 then c - 48 else c - 87
 
-abbrev decoded : State → List ℕ → List ℕ
+abbrev pub decoded : State → List ℕ → List ℕ
 decoded state [] = []
 decoded Outside (c ∷ others) = if c == 92 then decoded Slash others else c ∷ decoded Outside others
 decoded Slash (c ∷ others) = decoded High others
@@ -34,7 +34,7 @@ escaped o rest h =
 
 -- ---- octets of strings
 -- each octet is itself, if it is no backslash, or escaped
-record Shows (show : ℕ → List ℕ) : Type 0 where
+pub record Shows (show : ℕ → List ℕ) : Type 0 where
   pub is : (o : ℕ) (rest : List ℕ) → o < 256 → decoded Outside (show o ++ rest) ≡ o ∷ decoded Outside rest
 
 slash : (o : ℕ) → (nat_le 0x20 o && nat_le o 0x7E && not (o == 0x5C)) ≡ true → (o == 92) ≡ false
@@ -44,7 +44,7 @@ shown-by : (o : ℕ) (rest : List ℕ) → o < 256 → (plain : Bool) → (nat_l
 shown-by o rest h true e = ap (λ b. cond b (decoded Slash rest) (o ∷ decoded Outside rest)) (slash o e)
 shown-by o rest h false e = escaped o rest h
 
-shown-shows : Shows shown_octet
+pub shown-shows : Shows shown_octet
 shown-shows = record { is = λ o rest h. shown-by o rest h (nat_le 0x20 o && nat_le o 0x7E && not (o == 0x5C)) refl }
 
 item-by : (o : ℕ) (rest : List ℕ) → o < 256 → (comma : Bool) → (o == 0x2C) ≡ comma → decoded Outside (cond comma (codes "\\x2c") (shown_octet o) ++ rest) ≡ o ∷ decoded Outside rest
@@ -54,7 +54,7 @@ item-by o rest h false e = shown-shows.is o rest h
 item-shows : Shows item_octet
 item-shows = record { is = λ o rest h. item-by o rest h (o == 0x2C) refl }
 
-all-decoded : (show : ℕ → List ℕ) → Shows show → (octets : List ℕ) → AreOctets octets → decoded Outside (flat_map show octets) ≡ octets
+pub all-decoded : (show : ℕ → List ℕ) → Shows show → (octets : List ℕ) → AreOctets octets → decoded Outside (flat_map show octets) ≡ octets
 all-decoded show s [] h = refl
 all-decoded show s (o ∷ octets) h = s.is o (flat_map show octets) h.0 ∙ ap (λ l. o ∷ l) (all-decoded show s octets h.1)
 
@@ -65,7 +65,7 @@ string-decoded show s first others h = by (is_mistaken (first ∷ others)) ∙ a
     by true = escaped first (flat_map show others) h.0
     by false = s.is first (flat_map show others) h.0
 
-abbrev head : List ℕ → ℕ
+abbrev pub head : List ℕ → ℕ
 head [] = 0
 head (c ∷ others) = c
 
@@ -91,6 +91,10 @@ module _ (show : ℕ → List ℕ) (s : Shows show) where
   not-none [] h e = omega (arith, ap head e)
   not-none (first ∷ others) h e = escapes (codes "[]") refl refl (λ f. omega (arith, f)) first others h e
 
+  not-one : (octets : List ℕ) → AreOctets octets → string_of show octets ≡ codes "[-]" → ⊥
+  not-one [] h e = omega (arith, ap head e)
+  not-one (first ∷ others) h e = escapes (codes "[-]") refl refl (λ f. omega (arith, f)) first others h e
+
   same-string : (octets others : List ℕ) → AreOctets octets → AreOctets others → string_of show octets ≡ string_of show others → octets ≡ others
   same-string [] [] h k e = refl
   same-string [] (y ∷ ys) h k e = absurd (not-empty y ys k (sym e))
@@ -108,6 +112,14 @@ strings-there octets h e = not-dash shown_octet shown-shows octets h e
 pub items-apart : (octets others : List ℕ) → AreOctets octets → AreOctets others → item_cell octets ≡ item_cell others → octets ≡ others
 unfolding item_cell
 items-apart octets others h k e = same-string item_octet item-shows octets others h k e
+
+pub item-not-dash : (octets : List ℕ) → AreOctets octets → item_cell octets ≡ codes "-" → ⊥
+unfolding item_cell
+item-not-dash octets h e = not-dash item_octet item-shows octets h e
+
+pub item-not-one : (octets : List ℕ) → AreOctets octets → item_cell octets ≡ codes "[-]" → ⊥
+unfolding item_cell
+item-not-one octets h e = not-one item_octet item-shows octets h e
 
 pub item-not-none : (octets : List ℕ) → AreOctets octets → item_cell octets ≡ codes "[]" → ⊥
 unfolding item_cell

@@ -15,10 +15,10 @@ use Rattle.krb_choice_laws.specs.Laws.{AreNumbers}
 use Rattle.krb_choice_laws.proofs.Decoded.{item-not-none, items-apart}
 
 -- ---- texts without commas
-abbrev is_no_comma : ℕ → Bool
+abbrev pub is_no_comma : ℕ → Bool
 is_no_comma c = not (c == 44)
 
-abbrev has_no_comma : List ℕ → Bool
+abbrev pub has_no_comma : List ℕ → Bool
 has_no_comma text = list_all is_no_comma text
 
 none-append : (xs ys : List ℕ) → has_no_comma xs ≡ true → has_no_comma ys ≡ true → has_no_comma (xs ++ ys) ≡ true
@@ -30,14 +30,14 @@ abbrev onto : ℕ → List (List ℕ) → List (List ℕ)
 onto c [] = (c ∷ []) ∷ []
 onto c (text ∷ others) = (c ∷ text) ∷ others
 
-abbrev split : List ℕ → List (List ℕ)
+abbrev pub split : List ℕ → List (List ℕ)
 split [] = [] ∷ []
 split (c ∷ others) = if c == 44 then [] ∷ split others else onto c (split others)
 
-no-comma : (c : ℕ) → is_no_comma c ≡ true → (c == 44) ≡ false
+pub no-comma : (c : ℕ) → is_no_comma c ≡ true → (c == 44) ≡ false
 no-comma c h = grind (arith, nat_tests)
 
-split-last : (text : List ℕ) → has_no_comma text ≡ true → split text ≡ text ∷ []
+pub split-last : (text : List ℕ) → has_no_comma text ≡ true → split text ≡ text ∷ []
 split-last [] h = refl
 split-last (c ∷ others) h =
     let parts = and_parts (is_no_comma c) (has_no_comma others) h in
@@ -58,21 +58,21 @@ split-more text (next ∷ others) h k = split-first text (next ++ flat_map (λ o
 
 -- ---- lists of texts
 -- a text that may be an item: it has no comma, and is not that of an empty list
-record IsItem (text : List ℕ) : Type 0 where
+pub record IsItem (text : List ℕ) : Type 0 where
   pub comma : has_no_comma text ≡ true
   pub none : text ≡ codes "[]" → ⊥
 
-abbrev AreItems : List (List ℕ) → Type 0
+abbrev pub AreItems : List (List ℕ) → Type 0
 AreItems texts = AllByRecursion IsItem texts
 
 commas : (texts : List (List ℕ)) → AreItems texts → HaveNoComma texts
 commas [] h = tt
 commas (text ∷ others) h = (h.0.comma, commas others h.1)
 
-abbrev in_list : List (List ℕ) → List ℕ
+abbrev pub in_list : List (List ℕ) → List ℕ
 in_list texts = joined (codes "[]") (codes ",") (λ text. text) texts
 
-split-list : (first : List ℕ) (others : List (List ℕ)) → AreItems (first ∷ others) → split (in_list (first ∷ others)) ≡ first ∷ others
+pub split-list : (first : List ℕ) (others : List (List ℕ)) → AreItems (first ∷ others) → split (in_list (first ∷ others)) ≡ first ∷ others
 split-list first others h = split-more first others h.0.comma (commas others h.1)
 
 tail-is : (x y : List ℕ) (xs ys : List (List ℕ)) → x ∷ xs ≡ y ∷ ys → x ≡ y
@@ -90,7 +90,7 @@ same-list [] (y ∷ ys) h k e = absurd (not-empty y ys k e)
 same-list (x ∷ xs) [] h k e = absurd (not-empty x xs h (sym e))
 same-list (x ∷ xs) (y ∷ ys) h k e = sym (split-list x xs h) ∙ ap split e ∙ split-list y ys k
 
-joined-map : {A : Type 0} (text : A → List ℕ) (all : List A) → joined (codes "[]") (codes ",") text all ≡ in_list (map text all)
+pub joined-map : {A : Type 0} (text : A → List ℕ) (all : List A) → joined (codes "[]") (codes ",") text all ≡ in_list (map text all)
 joined-map text [] = refl
 joined-map text (first ∷ others) = ap (λ l. text first ++ l) (rest others)
   where
@@ -102,7 +102,7 @@ joined-map text (first ∷ others) = ap (λ l. text first ++ l) (rest others)
 glyph : (d : ℕ) → d < 16 → is_no_comma (digit_glyph false d) ≡ true
 glyph d h = grind (arith, nat_tests)
 
-hex-comma : (o : ℕ) → o < 256 → has_no_comma (codes "\\x" ++ two_hex o) ≡ true
+pub hex-comma : (o : ℕ) → o < 256 → has_no_comma (codes "\\x" ++ two_hex o) ≡ true
 hex-comma o h = and_from (is_no_comma (digit_glyph false (o / 16))) (has_no_comma (digit_glyph false (o % 16) ∷ [])) (glyph (o / 16) (omega arith)) (and_from (is_no_comma (digit_glyph false (o % 16))) true (glyph (o % 16) (omega arith)) refl)
 
 octet-comma : (o : ℕ) → o < 256 → has_no_comma (item_octet o) ≡ true
@@ -126,9 +126,12 @@ item-comma (o ∷ octets) h = none-append (escaped_if (is_mistaken (o ∷ octets
     by true = hex-comma o h.0
     by false = octet-comma o h.0
 
+pub string-item : (octets : List ℕ) → AreOctets octets → IsItem (item_cell octets)
+string-item octets h = record { comma = item-comma octets h; none = item-not-none octets h }
+
 are-items : (strings : List (List ℕ)) → AllAreOctets strings → AreItems (map item_cell strings)
 are-items [] h = tt
-are-items (string ∷ others) h = (record { comma = item-comma string h.0; none = item-not-none string h.0 }, are-items others h.1)
+are-items (string ∷ others) h = (string-item string h.0, are-items others h.1)
 
 heads : (x y : List ℕ) (xs ys : List (List ℕ)) → x ∷ xs ≡ y ∷ ys → (x ≡ y) × (xs ≡ ys)
 heads x y xs ys e = (cc, cc)
@@ -157,7 +160,7 @@ digit-is test t (suc k) n after h =
     ]
 
 -- no comma, and no bracket
-abbrev is_of_number : ℕ → Bool
+abbrev pub is_of_number : ℕ → Bool
 is_of_number c = not (c == 44) && not (c == 91)
 
 glyph-number : (d : ℕ) → d < 10 → is_of_number (digit_glyph false d) ≡ true
@@ -166,7 +169,7 @@ glyph-number d h = grind (arith, nat_tests)
 glyph-digit : (d : ℕ) → d < 10 → nat_le 48 (digit_glyph false d) ≡ true
 glyph-digit d h = grind (arith, nat_tests)
 
-number-is : (number : ℤ) → list_all is_of_number (signed_decimal number) ≡ true
+pub number-is : (number : ℤ) → list_all is_of_number (signed_decimal number) ≡ true
 unfolding digits
 number-is (pos n) = digit-is is_of_number glyph-number 64 n [] refl
 number-is (negsuc n) = digit-is is_of_number glyph-number 64 (suc n) [] refl
@@ -181,7 +184,7 @@ no-commas (c ∷ others) h =
     let parts = and_parts (is_of_number c) (list_all is_of_number others) h in
     and_from (is_no_comma c) (has_no_comma others) (and_parts (not (c == 44)) (not (c == 91)) parts.0).0 (no-commas others parts.1)
 
-number-item : (number : ℤ) → IsItem (signed_decimal number)
+pub number-item : (number : ℤ) → IsItem (signed_decimal number)
 number-item number = record { comma = no-commas (signed_decimal number) (number-is number); none = λ e. let f : false ≡ true = sym (ap (list_all is_of_number) e) ∙ number-is number in cc }
 
 number-items : (numbers : List ℤ) → AreItems (map signed_decimal numbers)

@@ -27,7 +27,7 @@ use Rattle.krb_text.specs.Messages.{message_record}
 use Rattle.krb_text_laws.proofs.EachForm.{ArePlainParts, AreShown, IsShown, names_are_plain}
 use Rattle.krb_text_laws.proofs.EndOneLine.{number_shown, origin_is_plain, origin_shown}
 use Rattle.krb_text_laws.proofs.MessageOneLine.{record_is_plain}
-use Rattle.krb_choice_laws.specs.Plain.{IsPlain, IsPlainPart}
+use Rattle.krb_choice_laws.specs.Plain.{ArePlain, IsPlain, IsPlainPart}
 use Rattle.krb_choice_laws.proofs.InsideWords.{AreWords, inside_words}
 use Rattle.krb_choice_laws.proofs.Values.{plain-fields}
 
@@ -68,7 +68,7 @@ span_shown : (span : Option Span) → IsShown (span_value span)
 span_shown None = tt
 span_shown (Some span) = tt
 
-answer_shown : (answer : Answer) → AreShown (answer_fields answer)
+pub answer_shown : (answer : Answer) → AreShown (answer_fields answer)
 answer_shown answer = (number_shown answer.of, (span_shown answer.after, (span_shown answer.waited, tt)))
 
 told_shown : (told : Told) → AreShown (told_fields told)
@@ -97,13 +97,25 @@ in_plain forms.NamedLines told = told_plain told
 in_plain forms.KeptNamedLines told = told_plain told
 in_plain form told = refl
 
+pub shown-origin : (form : Form) (origin : CaptureOrigin) → OriginIsInRange origin → AreShown (origin_fields form origin)
+shown-origin form origin range = (tt, (time_shown origin.time range.time, ((range.source, range.target), in_shown form origin.told)))
+
+pub plain-origin : (form : Form) (origin : CaptureOrigin) → OriginIsInRange origin → ArePlain (origin_fields form origin)
+plain-origin form origin range = plain-fields (origin_fields form origin) (in_plain form origin.told) (shown-origin form origin range)
+
+pub shown-last : (origin : CaptureOrigin) → AreShown (last_fields origin)
+shown-last origin = (last_shown origin.time, told_shown origin.told)
+
+pub plain-last : (origin : CaptureOrigin) → ArePlain (last_fields origin)
+plain-last origin = plain-fields (last_fields origin) (told_plain origin.told) (shown-last origin)
+
 pub captured-plain : (form : Form) (origin : CaptureOrigin) (m : Message) → OriginIsInRange origin → IsInProfile profiles.Lenient m → IsPlain (captured_record form origin (message_record m))
 captured-plain form origin m range good =
-    let of = from-origin (origin_fields form origin) m (in_plain form origin.told) (tt, (time_shown origin.time range.time, ((range.source, range.target), in_shown form origin.told))) good in record {
+    let of = from-origin (origin_fields form origin) m (in_plain form origin.told) (shown-origin form origin range) good in record {
       kind = of.kind;
       origin = of.origin;
       fields = of.fields;
       inside = of.inside;
-      last = plain-fields (last_fields origin) (told_plain origin.told) (last_shown origin.time, told_shown origin.told);
+      last = plain-last origin;
       aside = of.aside;
     }

@@ -22,7 +22,7 @@ alone : (kind : List ℕ) → IsPrintable kind → IsPrintable (kind_alone kind)
 alone [] h = tt
 alone (c ∷ others) h = elim (c == 32) as (λ b. IsPrintable (cond b [] (c ∷ kind_alone others))) [ true ↦ tt | false ↦ (h.0, alone others h.1) ]
 
-all-plain : (xs ys : List Field) → ArePlain xs → ArePlain ys → ArePlain (xs ++ ys)
+pub all-plain : (xs ys : List Field) → ArePlain xs → ArePlain ys → ArePlain (xs ++ ys)
 all-plain [] ys h k = k
 all-plain (x ∷ xs) ys h k = (h.0, all-plain xs ys h.1 k)
 

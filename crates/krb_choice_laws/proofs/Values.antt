@@ -139,7 +139,7 @@ truth : (holds : Bool) → Prints (true_or_false holds)
 truth true = word (codes "true") refl
 truth false = word (codes "false") refl
 
-four : (n : ℕ) → n < 2 ^ 32 → AreOctets (four_octets n)
+pub four : (n : ℕ) → n < 2 ^ 32 → AreOctets (four_octets n)
 four n h = (omega arith, (omega arith, (omega arith, (omega arith, tt))))
 
 -- ---- by path

@@ -2,3 +2,6 @@ pub mod Plain
 pub mod Laws
 pub mod Listing
 pub mod Messages
+pub mod Records
+pub mod Cells
+pub mod Examples

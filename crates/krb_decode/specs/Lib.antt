@@ -3,5 +3,7 @@ pub mod Decoded
 pub mod Given
 pub mod Hints
 pub mod Runs
+pub mod Sorted
+pub mod Sorters
 pub mod Streams
 pub mod inner

@@ -16,6 +16,7 @@
 mod cache;
 mod credential;
 mod found;
+mod given;
 mod hint;
 mod input;
 mod parts;
@@ -23,7 +24,8 @@ mod sorting;
 mod stream;
 
 pub use cache::run_decode_ccache;
+pub use given::{Before, Given};
 pub use hint::{hint_text, keytab_text};
 pub use input::{DecodedInput, InputEnd, decode_given, run_decode_input};
-pub use sorting::{Sorting, Tell};
+pub use sorting::{Sorter, Sorting, Tell};
 pub use stream::run_decode_stream;

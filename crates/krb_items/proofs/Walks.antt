@@ -1,13 +1,15 @@
 -- The steps of a walk.
-use Rattle.std.proofs.Common.{◌≡◌, ℕ, ℤ, zero, suc, ◌+◌, ◌-◌, ◌≤◌, true, false, List, [], ◌∷◌, length, get_or, take, take_all, drop, map, Option, Some, None, Ok, Result, IfOk, refl, sym, ap, ◌∙◌, subst, arith}
+use Rattle.std.proofs.Common.{◌≡◌, ℕ, ℤ, zero, suc, ◌+◌, ◌-◌, ◌≤◌, true, false, List, [], ◌∷◌, length, get_or, take, take_all, drop, map, codes, Option, Some, None, Ok, Result, IfOk, refl, sym, ap, ◌∙◌, subst, arith}
 use Rattle.std.specs.List.{slice_get}
 use Rattle.std.proofs.lemmas.Result.{IfOk-weaker}
-use Rattle.krb_items.specs.Heads.{Begun, Headed, begun_at, count_in, headed}
+use Rattle.krb_der.specs.Octets.{begins_with}
+use Rattle.krb_items.specs.Heads.{Begun, Headed, contents_in, count_in, headed, octet_of}
 use Rattle.krb_items.specs.Held.{number_after}
-use Rattle.krb_items.specs.Items.{Here, Items, begins_as, contents_items, element_items, ended, field_items, here_at, item_items, message_items, most_levels, named, of_headed, of_kind, passed}
+use Rattle.krb_items.specs.Items.{Here, Items, Limits, begins_as, begun_here, contents_items, element_items, ended, field_items, here_at, identified_items, item_items, kind_items, mechanism_items, message_items, named, of_headed, passed}
 use Rattle.krb_items.specs.Names.{element_path, field_path}
 use Rattle.krb_items.specs.Records.{Context, Lists}
-use Rattle.krb_items.specs.Shapes.{Field, ItemType, field_of, message_of, type_of}
+use Rattle.krb_items.specs.Shapes.{Field, ItemType, field_of, identifier_type, message_of, type_of}
+use Rattle.krb_items.specs.declared.tag.Tag.TheVariants as tags
 use Rattle.krb_msg.specs.Views.{kind_name, kind_with_tag}
 use Rattle.krb_msg.specs.declared.message.Kind.{Kind}
 use Rattle.krb_items.specs.declared.listing.End.{End}
@@ -48,16 +50,16 @@ listed-so context before items old mid new made result found same is listed goes
 
 -- ---- an item
 -- an item by its heads
-item-by : (levels left limit : ℕ) (here : Here) (of : ItemType) (octets : List ℕ) (h : Headed) → levels ≡ suc left → headed limit (begun_at here.place here.depth) of.tags octets ≡ h
-    → item_items levels limit here of octets ≡ of_headed here.name h (contents_items (item_items left limit) limit here of.shape)
-item-by levels left limit here of octets h is e =
-    ap (λ n. item_items n limit here of octets) is ∙ ap (λ h. of_headed here.name h (contents_items (item_items left limit) limit here of.shape)) e
+item-by : (levels left : ℕ) (limits : Limits) (here : Here) (of : ItemType) (octets : List ℕ) (h : Headed) → levels ≡ suc left → headed limits.limit (begun_here here) of.tags octets ≡ h
+    → item_items levels limits here of octets ≡ of_headed here.name h (contents_items (item_items left limits) limits here of.shape)
+item-by levels left limits here of octets h is e =
+    ap (λ n. item_items n limits here of octets) is ∙ ap (λ h. of_headed here.name h (contents_items (item_items left limits) limits here of.shape)) e
 
-pub item-goes : (context : Context) (levels left limit : ℕ) (here : Here) (of : ItemType) (octets contents : List ℕ) (begun : Begun) (old new : Listed) (end : End) → levels ≡ suc left
-    → headed limit (begun_at here.place here.depth) of.tags octets ≡ record { begun = begun; contents = Some contents }
-    → Lists context (contents_items (item_items left limit) limit here of.shape begun contents) old new end → Lists context (item_items levels limit here of octets) old new end
-item-goes context levels left limit here of octets contents begun old new end is e listed =
-    lists-same context _ _ old new end (item-by levels left limit here of octets (record { begun = begun; contents = Some contents }) is e) listed
+pub item-goes : (context : Context) (levels left : ℕ) (limits : Limits) (here : Here) (of : ItemType) (octets contents : List ℕ) (begun : Begun) (old new : Listed) (end : End) → levels ≡ suc left
+    → headed limits.limit (begun_here here) of.tags octets ≡ record { begun = begun; contents = Some contents }
+    → Lists context (contents_items (item_items left limits) limits here of.shape begun contents) old new end → Lists context (item_items levels limits here of octets) old new end
+item-goes context levels left limits here of octets contents begun old new end is e listed =
+    lists-same context _ _ old new end (item-by levels left limits here of octets (record { begun = begun; contents = Some contents }) is e) listed
 
 -- ---- the fields of a SEQUENCE
 field-then : (context : Context) (item : Here → ItemType → List ℕ → Items) (here : Here) (field : Field) (fields : List Field) (room : ℕ) (octets : List ℕ) (old mid new : Listed) (end : End) →
@@ -123,11 +125,30 @@ element-bound item of bound index here room octets none = rw none refl
 first-is : (octet : ℕ) (octets : List ℕ) (first : ℕ) → Some first ≡ slice_get (octet ∷ octets) 0 → first ≡ octet
 first-is octet octets first some = cc
 
-pub message-goes : (limit place depth : ℕ) (octets : List ℕ) (first : ℕ) (kind : Kind) (name : List ℕ) (of : ItemType) → Some first ≡ slice_get octets 0 → kind_with_tag first ≡ Some kind → name ≡ kind_name kind → of ≡ message_of kind
-    → message_items limit place depth octets ≡ item_items most_levels limit (here_at name place depth None) of octets
-message-goes limit place depth [] first kind name of some tag named shaped = absurd cc
-message-goes limit place depth (octet ∷ octets) first kind name of some tag named shaped =
+pub message-goes : (item : Here → ItemType → List ℕ → Items) (here : Here) (octets : List ℕ) (first : ℕ) (kind : Kind) (own : Here) (name : List ℕ) (of : ItemType) → Some first ≡ slice_get octets 0 → kind_with_tag first ≡ Some kind
+    → own ≡ here_at here.layers name here.place here.depth → name ≡ kind_name kind → of ≡ message_of kind → message_items item here octets ≡ item own of octets
+message-goes item here [] first kind own name of some tag own-is name-is of-is = absurd cc
+message-goes item here (octet ∷ octets) first kind own name of some tag own-is name-is of-is =
     let found : kind_with_tag octet ≡ Some kind = ap kind_with_tag (sym (first-is octet octets first some)) ∙ tag in
-    ap (λ (k : Option Kind). of_kind k limit place depth (octet ∷ octets)) found
-    ∙ ap (λ (n : List ℕ). item_items most_levels limit (here_at n place depth None) (message_of kind) (octet ∷ octets)) (sym named)
-    ∙ ap (λ (o : ItemType). item_items most_levels limit (here_at name place depth None) o (octet ∷ octets)) (sym shaped)
+    ap (λ (k : Option Kind). kind_items item k here (octet ∷ octets)) found
+    ∙ ap (λ (n : List ℕ). item (here_at here.layers n here.place here.depth) (message_of kind) (octet ∷ octets)) (sym name-is)
+    ∙ ap (λ (h : Here). item h (message_of kind) (octet ∷ octets)) (sym own-is)
+    ∙ ap (λ (o : ItemType). item own o (octet ∷ octets)) (sym of-is)
+
+-- ---- a layer
+-- the identifier of a mechanism, and what follows it
+pub identified-then : (context : Context) (item : Here → ItemType → List ℕ → Items) (limits : Limits) (here own after : Here) (of : ItemType) (room after-room : ℕ) (octets identifier after-octets : List ℕ) (count : ℕ) (old mid new : Listed) (first end : End) →
+    begins_with (octet_of tags.ObjectIdentifier) octets ≡ true → own ≡ named here (field_path here.name (codes "oid")) → of ≡ identifier_type → Lists context (item own of octets) old mid first → first ≡ ends.Whole
+    → count ≡ count_in octets → after ≡ passed here count None → identifier ≡ contents_in (tags.ObjectIdentifier ∷ []) octets → after-room ≡ room - count → after-octets ≡ drop count octets
+    → Lists context (mechanism_items item limits after identifier after-room after-octets) mid new end → Lists context (identified_items item limits here room octets) old new end
+identified-then context item limits here own after of room after-room octets identifier after-octets count old mid new first end begin own-is of-is listed whole count-is after-is identifier-is room-is octets-is others =
+    rw begin (lists-then context _ _ old mid new end
+    (lists-at context item identifier_type octets own _ old mid first ends.Whole own-is whole (subst (λ (o : ItemType). Lists context (item own o octets) old mid first) of-is listed))
+    (lists-left context (λ here room octets-left. mechanism_items item limits here (contents_in (tags.ObjectIdentifier ∷ []) octets) room octets-left) here None count octets after room after-room after-octets mid new end count-is after-is room-is octets-is
+    (subst (λ (i : List ℕ). Lists context (mechanism_items item limits after i after-room after-octets) mid new end) identifier-is others)))
+
+-- an item of a type, at a place
+pub item-listed : {E : Type 0} (context : Context) (item : Here → ItemType → List ℕ → Items) (here own : Here) (of made : ItemType) (octets : List ℕ) (old new : Listed) (result : Result End E) → own ≡ here → made ≡ of
+    → IfOk result (Lists context (item own made octets) old new) → IfOk result (Lists context (item here of octets) old new)
+item-listed context item here own of made octets old new result own-is made-is listed =
+    subst (λ (h : Here). IfOk result (Lists context (item h of octets) old new)) own-is (subst (λ (o : ItemType). IfOk result (Lists context (item own o octets) old new)) made-is listed)

@@ -1,6 +1,7 @@
 -- The identifier and length octets of items, as they are read of octets up to and with one that is refused (X.690, 8.1.2 and 8.1.3). Whether contents fit in what they lie in is not asked here.
 use Rattle.std.specs.Prelude.{ℕ, ◌+◌, ◌-◌, ◌%◌, min, ◌&&◌, ◌||◌, ◌==◌, nat_lt, if◌then◌else◌, List, [], ◌∷◌, ◌++◌, length, take, drop, Option, Some, None}
 use Rattle.krb_der.specs.Octets.{when, begins_with, number}
+use Rattle.krb_source.specs.declared.layer.Layer.{Layer}
 use Rattle.krb_items.specs.declared.head.Head.{Head}
 use Rattle.krb_items.specs.declared.tag.Tag.{Tag}
 use Rattle.krb_items.specs.declared.tag.Tag.TheVariants as tags
@@ -42,6 +43,8 @@ abbrev pub octet_of : Tag → ℕ
 octet_of (tags.Context index) = 0xA0 + index % 32
 octet_of (tags.Application number) = 0x60 + number % 32
 octet_of tags.Boolean = 0x01
+octet_of tags.ObjectIdentifier = 0x06
+octet_of tags.Enumerated = 0x0A
 octet_of tags.Integer = 0x02
 octet_of tags.BitString = 0x03
 octet_of tags.OctetString = 0x04
@@ -50,9 +53,11 @@ octet_of tags.GeneralizedTime = 0x18
 octet_of tags.Sequence = 0x30
 octet_of tags.SequenceOf = 0x30
 octet_of tags.Frame = 0x00
+octet_of tags.Octets = 0x00
 
--- An item as far as its heads are read: the place of its first octet, in how many items it is, the place after its heads, their octets, their tags, of those whose tag is right, and the length of the last, if that is right.
+-- An item as far as its heads are read: what it lies in, the place of its first octet, in how many items it is, the place after its heads, their octets, their tags, of those whose tag is right, and the length of the last, if that is right.
 pub record Begun : Type 0 where
+  pub layers : List Layer
   pub at : ℕ
   pub depth : ℕ
   pub next : ℕ
@@ -60,17 +65,21 @@ pub record Begun : Type 0 where
   pub tags : List Tag
   pub size : Option ℕ
 
-abbrev pub begun_at : (place depth : ℕ) → Begun
-begun_at place depth = record { at = place; depth = depth; next = place; heads = []; tags = []; size = None }
+abbrev pub begun_at : List Layer → (place depth : ℕ) → Begun
+begun_at layers place depth = record { layers = layers; at = place; depth = depth; next = place; heads = []; tags = []; size = None }
 
 -- one more head, whose tag is right
 abbrev pub with_head : Begun → Tag → List ℕ → Option ℕ → Begun
-with_head begun tag octets size = record { at = begun.at; depth = begun.depth; next = begun.next + length octets; heads = begun.heads ++ octets ∷ []; tags = begun.tags ++ tag ∷ []; size = size }
+with_head begun tag octets size = record { layers = begun.layers; at = begun.at; depth = begun.depth; next = begun.next + length octets; heads = begun.heads ++ octets ∷ []; tags = begun.tags ++ tag ∷ []; size = size }
 
 -- the octet that is there in place of a tag, if there is one
 abbrev pub with_unknown : Begun → List ℕ → Begun
 with_unknown begun [] = begun
-with_unknown begun (octet ∷ octets) = record { at = begun.at; depth = begun.depth; next = begun.next; heads = begun.heads ++ (octet ∷ []) ∷ []; tags = begun.tags; size = None }
+with_unknown begun (octet ∷ octets) = record { layers = begun.layers; at = begun.at; depth = begun.depth; next = begun.next; heads = begun.heads ++ (octet ∷ []) ∷ []; tags = begun.tags; size = None }
+
+-- octets that have a tag and no head
+abbrev pub with_octets : Begun → Tag → ℕ → Begun
+with_octets begun tag size = record { layers = begun.layers; at = begun.at; depth = begun.depth; next = begun.next; heads = begun.heads; tags = begun.tags ++ tag ∷ []; size = Some size }
 
 -- how many octets its contents are to have
 abbrev pub size_of : Option ℕ → ℕ

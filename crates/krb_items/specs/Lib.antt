@@ -4,6 +4,7 @@ pub mod Shapes
 pub mod Held
 pub mod Terms
 pub mod Items
+pub mod Fronts
 pub mod Records
 pub mod Seen
 pub mod Reached

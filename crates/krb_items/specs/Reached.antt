@@ -1,14 +1,14 @@
 -- What is listed of octets, by what they are, and by what is refused of them.
-use Rattle.std.specs.Prelude.{ℕ, ◌+◌, ◌^◌, ◌<◌, ◌&&◌, ◌==◌, nat_le, Bool, true, false, if◌then◌else◌, List, [], length, take, drop, Option, Some, None}
+use Rattle.std.specs.Prelude.{ℕ, ◌+◌, ◌&&◌, ◌==◌, nat_le, Bool, true, false, if◌then◌else◌, List, [], ◌∷◌, length, take, codes, Option, Some, None}
 use Rattle.krb_der.specs.declared.verdict.Refusal.{Refusal}
 use Rattle.krb_der.specs.declared.why.Why.{Why}
 use Rattle.krb_der.specs.declared.why.Why.TheVariants as why
-use Rattle.krb_source.specs.declared.layer.Layer.{Layer}
+use Rattle.krb_source.specs.declared.layer.Layer.TheVariants.{Gss, Spnego}
 use Rattle.krb_record.specs.Forms.{last_text}
 use Rattle.krb_record.specs.Labels.{Label, begin_text, with_label}
 use Rattle.krb_record.specs.Values.{printed}
 use Rattle.krb_items.specs.Heads.{head_in}
-use Rattle.krb_items.specs.Items.{Items, frame_items, frame_size, message_items, ticket_items}
+use Rattle.krb_items.specs.Items.{Items, Limits, all_items, frame_items, frame_size, gss_items, here_at, message_items, spnego_items, ticket_items}
 use Rattle.krb_items.specs.Records.{Context, listed_items, listed_part}
 use Rattle.krb_items.specs.declared.head.Head.{Head}
 use Rattle.krb_items.specs.declared.listing.Listed.{Listed}
@@ -17,11 +17,12 @@ use Rattle.krb_items.specs.declared.reaching.Lies.{Lies}
 use Rattle.krb_items.specs.declared.reaching.Lies.TheVariants as lies
 
 -- the items of octets, of which so many are right
-abbrev pub items_as : Lies → (limit : ℕ) → List ℕ → Items
-items_as lies.Alone limit octets = message_items limit 0 0 octets
-items_as lies.Ticket limit octets = ticket_items limit octets
-items_as lies.Framed limit octets = frame_items limit octets
-items_as (lies.Within place depth) limit octets = message_items limit place depth (drop place octets)
+abbrev pub items_as : Lies → Limits → List ℕ → Items
+items_as lies.Alone limits octets = message_items (all_items limits) (here_at [] [] 0 0) octets
+items_as lies.Ticket limits octets = ticket_items limits octets
+items_as lies.Framed limits octets = frame_items limits octets
+items_as lies.Gss limits octets = gss_items (all_items limits) limits (here_at (Gss ∷ []) (codes "GSS") 0 0) octets
+items_as (lies.Spnego neg) limits octets = spnego_items (all_items limits) limits neg (here_at (Spnego ∷ []) (codes "SPNEGO") 0 0) octets
 
 -- the octets up to and with one that is refused
 abbrev pub seen : Option Refusal → List ℕ → List ℕ
@@ -44,21 +45,18 @@ listing_of context items listed = listed_part context items.cut (listed_items co
 abbrev pub last_members : Label → List ℕ
 last_members label = last_text label.form (with_label label (printed [] [])).last
 
-abbrev pub context_by : Label → List Layer → List ℕ → Option Refusal → Context
-context_by label layers octets fault = record { form = label.form; begin = begin_text label; last = last_members label; layers = layers; octets = octets; fault = fault }
+abbrev pub context_by : Label → List ℕ → Option Refusal → Context
+context_by label octets fault = record { form = label.form; begin = begin_text label; last = last_members label; octets = octets; fault = fault }
 
--- What is listed after a text, of what lies in layers: the items of octets, up to the one at fault if something is refused
-unfoldable pub reached : Label → List ℕ → List Layer → Lies → List ℕ → Option Refusal → Listed
-reached label text layers lies octets fault =
-    listing_of (context_by label layers (seen fault octets) fault)
-    (items_as lies (right fault octets) (seen fault octets))
+abbrev pub limits_by : List ℕ → Option Refusal → Limits
+limits_by octets fault = record { limit = right fault octets; fault = fault }
+
+-- What is listed after a text: the items of octets, up to the one at fault if something is refused
+unfoldable pub reached : Label → List ℕ → Lies → List ℕ → Option Refusal → Listed
+reached label text lies octets fault =
+    listing_of (context_by label (seen fault octets) fault)
+    (items_as lies (limits_by octets fault) (seen fault octets))
     (record { text = text; count = 0; shown = record { from = 0; hides = false } })
-
-abbrev pub IsShallow : Lies → Type 0
-IsShallow (lies.Within place depth) = depth < 2 ^ 31
-IsShallow lies.Alone = Unit {0}
-IsShallow lies.Ticket = Unit {0}
-IsShallow lies.Framed = Unit {0}
 
 -- ---- the first length
 -- how many octets the first head has, and how many there are by its length, with it
@@ -74,7 +72,8 @@ abbrev pub announced : Lies → List ℕ → Option FirstHead
 announced lies.Alone octets = announced_by (head_in octets)
 announced lies.Ticket octets = announced_by (head_in octets)
 announced lies.Framed octets = announced_frame (frame_size octets)
-announced (lies.Within place depth) octets = None
+announced lies.Gss octets = announced_by (head_in octets)
+announced (lies.Spnego neg) octets = announced_by (head_in octets)
 
 -- octets were cut, or more follows
 abbrev pub is_of_length : Why → Bool

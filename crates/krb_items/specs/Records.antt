@@ -1,6 +1,7 @@
 -- The records of items and of what is at fault, and what is listed so far.
-use Rattle.std.specs.Prelude.{ℕ, ℤ, pos, ◌≡◌, ◌+◌, ◌-◌, ◌^◌, ◌&&◌, ◌||◌, min, max, Bool, true, false, nat_lt, nat_le, if◌then◌else◌, List, [], ◌∷◌, ◌++◌, length, take, drop, codes, Option, Some, None}
+use Rattle.std.specs.Prelude.{ℕ, ℤ, pos, ◌≡◌, ◌+◌, ◌-◌, ◌*◌, ◌^◌, ◌&&◌, ◌||◌, ◌==◌, min, max, Bool, true, false, nat_lt, nat_le, if◌then◌else◌, List, [], ◌∷◌, ◌++◌, length, take, drop, codes, Option, Some, None}
 use Rattle.std.specs.Fmt.{decimal}
+use Rattle.std.specs.List.{list_all}
 use Rattle.krb_der.specs.Octets.{integer_value}
 use Rattle.krb_der.specs.Reasons.{reason_number, reason_name}
 use Rattle.krb_der.specs.declared.verdict.Refusal.{Refusal}
@@ -36,6 +37,9 @@ type_word tags.GeneralizedTime = codes "GeneralizedTime"
 type_word tags.Sequence = codes "SEQUENCE"
 type_word tags.SequenceOf = codes "SEQUENCE-OF"
 type_word tags.Frame = codes "frame"
+type_word tags.Octets = codes "octets"
+type_word tags.ObjectIdentifier = codes "OBJECT-IDENTIFIER"
+type_word tags.Enumerated = codes "ENUMERATED"
 
 abbrev pub number_of_tag : Tag → Option ℕ
 number_of_tag (tags.Context index) = Some index
@@ -61,12 +65,11 @@ abbrev pub words_field : {A : Type 0} → Form → List ℕ → (A → List ℕ)
 words_field form name text words = words_text form (codes " " ++ name ++ codes "=") (codes ",\"" ++ name) text words
 
 -- ---- where an item is
--- the form of the records, what a line has before each of them and what an object has last, what the items lie in, all octets up to and with one that is refused, and what is refused of them
+-- the form of the records, what a line has before each of them and what an object has last, all octets up to and with one that is refused, and what is refused of them
 pub record Context : Type 0 where
   pub form : Form
   pub begin : List ℕ
   pub last : List ℕ
-  pub layers : List Layer
   pub octets : List ℕ
   pub fault : Option Refusal
 
@@ -98,7 +101,7 @@ contents_text form begun =
     ++ field form (codes "length") (if_there (λ n. Number (pos n)) begun.size)
 
 abbrev pub origin_text : Context → List ℕ → Begun → List ℕ
-origin_text context kind begun = context.begin ++ before_place context.form context.layers kind ++ heads_text context.form begun ++ contents_text context.form begun ++ after_place context.form kind
+origin_text context kind begun = context.begin ++ before_place context.form begun.layers kind ++ heads_text context.form begun ++ contents_text context.form begun ++ after_place context.form kind
 
 abbrev pub ending : Context → List ℕ
 ending context = context.last ++ closing context.form ++ line_feed
@@ -124,6 +127,26 @@ abbrev pub truth_in : List ℕ → Value
 truth_in [] = Absent
 truth_in (octet ∷ octets) = YesNo (nat_lt 0 octet)
 
+-- contents of an OBJECT IDENTIFIER (X.690, 8.19): its numbers, of seven bits an octet, after the part of one that is read
+abbrev pub numbers_in : (part : ℕ) → List ℕ → List ℕ
+numbers_in part [] = if part == 0 then [] else part ∷ []
+numbers_in part (octet ∷ octets) = if nat_lt octet 0x80 then (part * 128 + octet) ∷ numbers_in 0 octets else numbers_in (part * 128 + (octet - 0x80)) octets
+
+-- the first is that of two: 40 times the one, which is 2 at most, and the other (8.19.4)
+abbrev pub first_two : ℕ → List ℕ
+first_two number = if nat_lt number 40 then 0 ∷ number ∷ [] else if nat_lt number 80 then 1 ∷ (number - 40) ∷ [] else 2 ∷ (number - 80) ∷ []
+
+abbrev pub identifier_numbers : List ℕ → List ℕ
+identifier_numbers [] = []
+identifier_numbers (number ∷ numbers) = first_two number ++ numbers
+
+-- with dots between them, or the contents if one has more than 64 bits
+abbrev pub identifier_by : List ℕ → List ℕ → Value
+identifier_by octets numbers = if list_all (λ number. nat_lt number (2 ^ 64)) numbers then String (joined [] (codes ".") decimal (identifier_numbers numbers)) else Hex octets
+
+abbrev pub identifier_in : List ℕ → Value
+identifier_in octets = identifier_by octets (numbers_in 0 octets)
+
 abbrev pub leaf_value : Leaf → List ℕ → Value
 leaf_value leaves.Number octets = integer_in leaves.Number octets
 leaf_value (leaves.Numbered registry) octets = integer_in (leaves.Numbered registry) octets
@@ -134,6 +157,8 @@ leaf_value leaves.Time octets = String octets
 leaf_value leaves.Octets octets = Hex octets
 leaf_value leaves.Truth octets = truth_in octets
 leaf_value leaves.Hidden octets = Number (pos (length octets))
+leaf_value leaves.Identifier octets = identifier_in octets
+leaf_value (leaves.Counted size) octets = Number (pos size)
 leaf_value leaves.Opened octets = Number (pos (length octets))
 leaf_value (leaves.Holder holder) octets = Number (pos (length octets))
 

@@ -13,6 +13,8 @@ use Rattle.krb_items.specs.declared.shape.Holder.{Holder}
 use Rattle.krb_items.specs.declared.shape.Holder.TheVariants as holders
 use Rattle.krb_items.specs.declared.shape.Leaf.{Leaf}
 use Rattle.krb_items.specs.declared.shape.Leaf.TheVariants as leaves
+use Rattle.krb_items.specs.declared.shape.NegToken.{NegToken}
+use Rattle.krb_items.specs.declared.shape.NegToken.TheVariants as negs
 use Rattle.krb_items.specs.declared.shape.Sequence.{Sequence}
 use Rattle.krb_items.specs.declared.shape.Sequence.TheVariants as sequences
 use Rattle.krb_items.specs.declared.shape.List.{List as Items}
@@ -83,6 +85,16 @@ application number of = record { tags = tags.Application number ∷ tags.Sequenc
 
 abbrev pub ticket : ItemType
 ticket = application 1 sequences.Ticket
+
+abbrev pub identifier_type : ItemType
+identifier_type = leaf_of tags.ObjectIdentifier leaves.Identifier
+
+-- the token in one of SPNEGO, and what is NegHints or an OCTET STRING
+abbrev pub token : ItemType
+token = record { tags = tags.OctetString ∷ []; shape = shapes.Token }
+
+abbrev pub hints : ItemType
+hints = record { tags = []; shape = shapes.Hints }
 
 -- ---- the fields of each SEQUENCE
 abbrev pub fields_of : Sequence → List Field
@@ -227,6 +239,21 @@ fields_of sequences.PaForUser =
 fields_of sequences.PaPacOptions = field 0 "flags" (flags registries.PacOptions) ∷ []
 -- MS-KILE, 2.2.3
 fields_of sequences.PacRequest = field 0 "include-pac" truth ∷ []
+-- RFC 4178, 4.2.1 and 4.2.2, and MS-SPNG, 2.2.1
+fields_of sequences.NegTokenInit =
+    optional 0 "mechTypes" (list_type lists.MechTypes)
+    ∷ optional 1 "reqFlags" (flags registries.ContextFlags)
+    ∷ optional 2 "mechToken" token
+    ∷ optional 3 "mechListMIC" hints
+    ∷ optional 4 "mechListMIC" (octets leaves.Hidden)
+    ∷ []
+fields_of sequences.NegTokenResp =
+    optional 0 "negState" (leaf_of tags.Enumerated leaves.Number)
+    ∷ optional 1 "supportedMech" identifier_type
+    ∷ optional 2 "responseToken" token
+    ∷ optional 3 "mechListMIC" (octets leaves.Hidden)
+    ∷ []
+fields_of sequences.NegHints = optional 0 "hintName" text ∷ optional 1 "hintAddress" (octets leaves.Hidden) ∷ []
 
 -- the items of each SEQUENCE OF
 abbrev pub item_of : Items → ItemType
@@ -238,6 +265,7 @@ item_of lists.RequestPaDatas = sequence_type sequences.RequestPaData
 item_of lists.PaDatas = sequence_type sequences.PaData
 item_of lists.EtypeInfo = sequence_type sequences.EtypeInfoEntry
 item_of lists.EtypeInfo2 = sequence_type sequences.EtypeInfo2Entry
+item_of lists.MechTypes = identifier_type
 
 -- the messages of a kind
 abbrev pub message_of : Kind → ItemType
@@ -267,3 +295,13 @@ held_type helds.EncryptedChallenge = sequence_type sequences.EncryptedData
 held_type helds.PacOptions = sequence_type sequences.PaPacOptions
 held_type helds.MethodData = list_type lists.PaDatas
 held_type helds.ApReq = message_of kinds.ApReq
+
+-- ---- tokens of SPNEGO (RFC 4178, 4.2)
+abbrev pub neg_type : NegToken → ItemType
+neg_type negs.Init = in_tag 0 (sequence_type sequences.NegTokenInit)
+neg_type negs.Response = in_tag 1 (sequence_type sequences.NegTokenResp)
+
+-- the field with the token
+abbrev pub neg_name : NegToken → List ℕ
+neg_name negs.Init = codes "mechToken"
+neg_name negs.Response = codes "responseToken"

@@ -2,17 +2,22 @@
 
 ghost use Rattle.std.specs.Prelude.{◌≡◌, ◌+◌, ◌≤◌, ◌<◌, ◌^◌, length, None, OnOk, IfOk, IfSome};
 ghost use Rattle.std.specs.Option.{option_map};
-ghost use Rattle.krb_items.specs.Heads.{begun_at, headed, size_of, with_head, with_unknown};
+ghost use Rattle.krb_items.specs.Heads.{headed, size_of, with_head, with_octets, with_unknown};
+ghost use Rattle.krb_items.specs.Items.{begun_here, here_in};
 ghost use Rattle.krb_items.specs.Records.{contents_place};
-ghost use Rattle.krb_items.specs.Seen.{IsNear, begun_of, headed_of};
+ghost use Rattle.krb_items.specs.Seen.{IsNear, begun_of, headed_of, here_of};
 
 use crate::head::{begins, front, part, read_head};
 use crate::tag::Tag;
+use crate::walk::{Here, Rest};
+use krb_source::Layer;
 use std::alloc::{AllocError, Global};
 
 /// An item as far as its heads are read.
 #[derive(Drop)]
 pub struct Begun<'a> {
+    /// What it lies in.
+    pub layers: &'static [Layer],
     /// The place of its first octet.
     pub at: u64,
     /// In how many items it is.
@@ -29,16 +34,17 @@ pub struct Begun<'a> {
 
 impl<'a> Begun<'a> {
     /// Returns an item of which no head is read.
-    pub(crate) fn new(alloc: Global, at: u64, depth: u64) -> Begun<'a>
-        ensures begun { begun_of result ≡ begun_at at depth }
-        ensures next { result.next ≡ at }
+    pub(crate) fn new(alloc: Global, here: Here<'_>) -> Begun<'a>
+        ensures begun { begun_of result ≡ begun_here (here_of here.entry) }
+        ensures next { result.next ≡ here.entry.place }
         ensures size { result.size ≡ None }
-        ensures depth { result.depth ≡ depth }
+        ensures depth { result.depth ≡ here.entry.depth }
     {
         Begun {
-            at,
-            depth,
-            next: at,
+            layers: here.layers,
+            at: here.place,
+            depth: here.depth,
+            next: here.place,
             heads: Vec::new(alloc),
             tags: Vec::new(alloc),
             size: None,
@@ -81,6 +87,19 @@ impl<'a> Begun<'a> {
         Ok(())
     }
 
+    /// Adds a tag of octets that have no head.
+    pub(crate) fn add_octets(&mut self, tag: Tag, size: u64) -> Result<(), AllocError>
+        requires near { self.old.next < 2 ^ 40 }
+        requires small { size < 2 ^ 40 }
+        ensures octets { OnOk result (begun_of self.new ≡ with_octets (begun_of self.old) tag size) }
+        ensures near { OnOk result (IsNear self.new) }
+        ensures depth { OnOk result (self.new.depth ≡ self.old.depth) }
+    {
+        self.tags.push(tag)?;
+        self.size = Some(size);
+        Ok(())
+    }
+
     /// Reads heads with these tags, of which the first octets up to a place are right, and returns the
     /// contents that are there, if all of the heads are right.
     pub(crate) fn read(
@@ -112,6 +131,25 @@ impl<'a> Begun<'a> {
             return Ok(None);
         }
         self.read(limit, others, part(octets, head.header, head.size))
+    }
+
+    /// Returns where what is in it begins, with its path.
+    pub(crate) fn inside<'n>(&self, name: &'n str) -> Here<'n>
+        requires { self.now.depth < 2 ^ 32 }
+        ensures { here_of result ≡ here_in name.now (begun_of self.now) }
+    {
+        Here::new(self.layers, name, self.next, self.depth + 1)
+    }
+
+    /// Returns what is in it, of which these octets are there.
+    pub(crate) fn rest(&self, octets: &'a [u8]) -> Rest<'a>
+        ensures room { result.room ≡ size_of self.now.size }
+        ensures octets { result.octets.now ≡ octets.now }
+    {
+        Rest {
+            room: self.count(),
+            octets,
+        }
     }
 
     /// Returns the place of the contents, if the last length is known.

@@ -20,7 +20,7 @@ use krb_padata::{
 const MOST: usize = 2147483647;
 
 /// Returns the contents that are there in heads with these tags.
-fn contents_in<'a>(tags: &[Tag], octets: &'a [u8]) -> &'a [u8]
+pub(crate) fn contents_in<'a>(tags: &[Tag], octets: &'a [u8]) -> &'a [u8]
     ensures { result.now ≡ contents_in tags.now octets.now }
 {
     let [_tag, others @ ..] = tags else {

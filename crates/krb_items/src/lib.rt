@@ -10,15 +10,20 @@
 #![tactic(auto)]
 
 mod begun;
+mod fronts;
 mod head;
 mod held;
+mod identifier;
 mod label;
 mod listing;
 mod reaching;
 mod shape;
 mod tag;
+mod tokens;
 mod walk;
 mod words;
 
+pub use fronts::{judge_gss, judge_spnego};
 pub use listing::{Listed, Shown};
 pub use reaching::{Lies, believed, list_octets};
+pub use shape::NegToken;

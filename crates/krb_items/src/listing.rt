@@ -9,11 +9,12 @@ ghost use Rattle.krb_record.specs.Forms.{field, labelled};
 ghost use Rattle.krb_record.specs.Text.{hex};
 ghost use Rattle.krb_record.specs.Values.{String as Escaped, if_there};
 ghost use Rattle.krb_items.specs.Items.{is_counted};
-ghost use Rattle.krb_items.specs.Records.{after_place, before_place, contents_text, ending, fault_line, heads_text, hex_if, hide, hide_if, is_hidden, item_line, item_value, leaf_value, listed_fault, listed_item, number_value, octet_at_fault, octets_before, origin_text, tag_word, via_text, words_field};
+ghost use Rattle.krb_items.specs.Records.{after_place, before_place, contents_text, ending, fault_line, heads_text, hex_if, hide, hide_if, identifier_in, is_hidden, item_line, item_value, leaf_value, listed_fault, listed_item, number_value, octet_at_fault, octets_before, origin_text, tag_word, via_text, words_field};
 ghost use Rattle.krb_items.specs.Seen.{IsNear, begun_of, context_of, item_of, part_of};
 
 use crate::begun::Begun;
 use crate::head::{from, front};
+use crate::identifier::{dotted, numbers_in};
 use crate::shape::Leaf;
 use crate::words::put_words;
 use krb_der::{Refusal, integer_value};
@@ -34,8 +35,6 @@ pub struct Source<'a> {
     pub begin: &'a str,
     /// What an object has last.
     pub last: &'a str,
-    /// What the items lie in.
-    pub layers: &'static [Layer],
     /// All octets, up to and with one that is refused.
     pub octets: &'a [u8],
     /// How many of them are right.
@@ -207,8 +206,28 @@ fn put_number(
     }
 }
 
+/// Appends the value of an OBJECT IDENTIFIER: its numbers, or its contents if one has more than 64
+/// bits.
+fn put_identifier(
+    alloc: Global,
+    text: &mut TextBuffer,
+    form: Form,
+    contents: &[u8],
+) -> Result<(), AllocError>
+    ensures { OnOk result (text.new ≡ text.old ++ field form (codes "value") (identifier_in contents.now)) }
+{
+    match numbers_in(alloc, contents)? {
+        None => put_field!(text, form, "value": &HexText(contents)),
+        Some(numbers) => {
+            let shown = dotted(alloc, numbers.as_slice())?;
+            put_field!(text, form, "value": &Text(shown.as_bytes()))
+        }
+    }
+}
+
 /// Appends the value of an item that holds none.
 fn put_value(
+    alloc: Global,
     text: &mut TextBuffer,
     form: Form,
     leaf: Leaf,
@@ -238,6 +257,8 @@ fn put_value(
             };
             put_field!(text, form, "value": &(*octet > 0))
         }
+        Leaf::Identifier => put_identifier(alloc, text, form, contents),
+        Leaf::Counted(size) => put_field!(text, form, "value": &size),
         Leaf::Hidden | Leaf::Opened | Leaf::Holder(_) =>
             put_field!(text, form, "value": &(contents.len() as u64)),
     }
@@ -254,6 +275,7 @@ pub struct Item<'n, 'a> {
 
 /// Appends the value of an item.
 fn put_item_value(
+    alloc: Global,
     text: &mut TextBuffer,
     form: Form,
     shown: Option<(Leaf, &[u8])>,
@@ -262,7 +284,7 @@ fn put_item_value(
 {
     match shown {
         None => put_field!(text, form, "value": &ABSENT),
-        Some((leaf, contents)) => put_value(text, form, leaf, contents),
+        Some((leaf, contents)) => put_value(alloc, text, form, leaf, contents),
     }
 }
 
@@ -296,7 +318,7 @@ impl<'a> Source<'a> {
         ensures { OnOk result (text.new ≡ text.old ++ origin_text (context_of self.entry) kind.now (begun_of begun.now)) }
     {
         text.push_str(self.begin)?;
-        put_before_place(text, self.form, self.layers, kind)?;
+        put_before_place(text, self.form, begun.layers, kind)?;
         put_heads(text, self.form, begun)?;
         put_contents(text, self.form, begun)?;
         put_after_place(text, self.form, kind)
@@ -318,7 +340,7 @@ impl<'a> Source<'a> {
         self.put_origin(text, "item", item.begun)?;
         put_field!(text, self.form, "name": &Text(item.name.as_bytes()))?;
         put_types(text, self.form, item.begun)?;
-        put_item_value(text, self.form, item.shown)?;
+        put_item_value(self.alloc, text, self.form, item.shown)?;
         self.put_last(text)
     }
 

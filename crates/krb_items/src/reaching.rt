@@ -2,15 +2,17 @@
 
 ghost use Rattle.std.specs.Prelude.{◌≡◌, ◌^◌, ◌<◌, length, IfOk, IfSome};
 ghost use Rattle.krb_items.specs.Items.{frame_items, frame_size};
-ghost use Rattle.krb_items.specs.Reached.{IsShallow, announced, believed, is_of_length, items_as, reached, right, seen};
+ghost use Rattle.krb_items.specs.Reached.{announced, believed, is_of_length, items_as, reached, right, seen};
 ghost use Rattle.krb_items.specs.Records.{Lists};
-ghost use Rattle.krb_items.specs.Seen.{context_of};
+ghost use Rattle.krb_items.specs.Seen.{context_of, limits_of};
 
 use crate::begun::Begun;
 use crate::head::{from, front, read_head};
 use crate::label::{begin_of, last_of};
-use crate::listing::{End, Item, Listed, Shown, Source};
+use crate::listing::{End, Listed, Shown, Source};
+use crate::shape::NegToken;
 use crate::tag::Tag;
+use crate::walk::{Here, LEVELS};
 use krb_der::{Refusal, Why, number_of};
 use krb_record::{Label, TextBuffer};
 use krb_source::Layer;
@@ -28,8 +30,10 @@ pub enum Lies {
     Ticket,
     /// A frame of a message.
     Framed,
-    /// A message at a place, in so many items, which are not listed.
-    Within { place: u32, depth: u32 },
+    /// A GSS-API token.
+    Gss,
+    /// A token of SPNEGO.
+    Spnego(NegToken),
 }
 
 /// Returns the length that a frame's first four octets are, if they are there.
@@ -47,37 +51,37 @@ impl<'a> Source<'a> {
     /// Lists a frame.
     fn list_frame(self, out: &mut Listed, octets: &'a [u8]) -> Result<End, AllocError>
         requires { length octets.now < 2 ^ 39 }
-        ensures { IfOk result (Lists (context_of self.entry) (frame_items self.entry.limit octets.now) out.old out.new) }
+        ensures { IfOk result (Lists (context_of self.entry) (frame_items (limits_of self.entry) octets.now) out.old out.new) }
     {
-        let mut begun = Begun::new(self.alloc, 0, 0);
+        let frame = Here::new(&[Layer::Frame], "", 0, 0);
+        let mut begun = Begun::new(self.alloc, frame);
         let size = frame_size(octets);
         begun.add(Tag::Frame, front(octets, 4), size)?;
         if size.is_none() || begun.next > self.limit {
             return self.cut(out, None, &begun, false);
         }
-        let frame = Item {
-            name: "frame",
-            begun: &begun,
-            shown: None,
-        };
-        self.list(out, frame)?;
-        self.list_message(out, 4, 1, from(octets, 4))
+        self.list_container(out, "frame", &begun)?;
+        let inside = Here::new(&[Layer::Frame], "", 4, 1);
+        self.list_message(out, inside, from(octets, 4))
     }
 
     /// Lists octets as what they are.
     fn list_as(self, out: &mut Listed, lies: Lies) -> Result<End, AllocError>
         requires short { length self.octets.now < 2 ^ 32 }
-        requires shallow { IsShallow lies }
-        ensures { IfOk result (Lists (context_of self.entry) (items_as lies self.entry.limit self.entry.octets.now) out.old out.new) }
+        ensures { IfOk result (Lists (context_of self.entry) (items_as lies (limits_of self.entry) self.entry.octets.now) out.old out.new) }
     {
         let octets = self.octets;
         match lies {
-            Lies::Alone => self.list_message(out, 0, 0, octets),
+            Lies::Alone => self.list_message(out, Here::new(&[], "", 0, 0), octets),
             Lies::Ticket => self.list_ticket(out, octets),
             Lies::Framed => self.list_frame(out, octets),
-            Lies::Within { place, depth } => {
-                let octets = from(octets, u64::from(place));
-                self.list_message(out, u64::from(place), u64::from(depth), octets)
+            Lies::Gss => {
+                let here = Here::new(&[Layer::Gss], "GSS", 0, 0);
+                self.gss(out, LEVELS, here, octets)
+            }
+            Lies::Spnego(neg) => {
+                let here = Here::new(&[Layer::Spnego], "SPNEGO", 0, 0);
+                self.spnego(out, LEVELS, neg, here, octets)
             }
         }
     }
@@ -95,7 +99,7 @@ fn announced(lies: Lies, octets: &[u8]) -> Option<FirstHead>
     ensures { result ≡ announced lies octets.now }
 {
     match lies {
-        Lies::Alone | Lies::Ticket => {
+        Lies::Alone | Lies::Ticket | Lies::Gss | Lies::Spnego(_) => {
             let head = read_head(octets)?;
             Some(FirstHead {
                 header: head.header,
@@ -109,7 +113,6 @@ fn announced(lies: Lies, octets: &[u8]) -> Option<FirstHead>
                 all: 4 + size,
             })
         }
-        Lies::Within { .. } => None,
     }
 }
 
@@ -158,20 +161,18 @@ fn seen(octets: &[u8], fault: Option<Refusal>) -> &[u8]
 }
 
 /// Lists the items of octets after a text: all of them, or, if something is refused, those up to
-/// there and the item at fault. The layers are what the items lie in.
+/// there and the item at fault.
 #[tactic(auto, unfolding(crate::specs::Reached::reached))]
 pub fn list_octets(
     alloc: Global,
     label: &Label,
     text: TextBuffer,
-    layers: &'static [Layer],
     lies: Lies,
     octets: &[u8],
     fault: Option<Refusal>,
 ) -> Result<Listed, AllocError>
     requires short { length octets.now < 2 ^ 32 }
-    requires shallow { IsShallow lies }
-    ensures { IfOk result (λ listed. listed ≡ reached label.now text layers.now lies octets.now fault) }
+    ensures { IfOk result (λ listed. listed ≡ reached label.now text lies octets.now fault) }
 {
     let mut out = Listed {
         text,
@@ -188,7 +189,6 @@ pub fn list_octets(
         form: label.form(),
         begin: begin.as_str(),
         last: last.as_str(),
-        layers,
         octets: seen(octets, fault),
         limit: right(octets, fault),
         fault,

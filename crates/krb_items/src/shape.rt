@@ -7,7 +7,7 @@ ghost use Rattle.krb_judge.specs.FieldNames.{names_of_kind};
 ghost use Rattle.krb_judge.specs.declared.locating.names.Names.TheVariants.{Ticket};
 ghost use Rattle.krb_msg.specs.Grammar.{ticket as ticket_term};
 ghost use Rattle.krb_msg.specs.Views.{kind_term};
-ghost use Rattle.krb_items.specs.Shapes.{field_of, fields_of, held_type, in_tag, item_of, list_type, message_of, sequence_type, ticket, type_of};
+ghost use Rattle.krb_items.specs.Shapes.{field_of, fields_of, held_type, identifier_type, in_tag, item_of, list_type, message_of, neg_name, neg_type, sequence_type, ticket, type_of};
 ghost use Rattle.krb_items.specs.Terms.{IsOf, IsOfHeld};
 
 use crate::tag::Tag;
@@ -33,10 +33,14 @@ pub enum Leaf {
     Octets,
     /// Whether something holds.
     Truth,
+    /// An identifier.
+    Identifier,
     /// Octets that are counted.
     Hidden,
     /// Octets that are counted, and followed by what they hold.
     Opened,
+    /// So many octets, which are followed by what they hold.
+    Counted(u64),
     /// Octets of which the number before them says what they hold.
     Holder(Holder),
 }
@@ -85,6 +89,15 @@ pub enum Held {
     ApReq,
 }
 
+/// A token of SPNEGO.
+#[derive(Clone, Copy)]
+pub enum NegToken {
+    /// A first one (RFC 4178, 4.2.1).
+    Init,
+    /// One after that (RFC 4178, 4.2.2).
+    Response,
+}
+
 /// A SEQUENCE.
 #[derive(Clone, Copy)]
 pub enum Sequence {
@@ -113,6 +126,9 @@ pub enum Sequence {
     PaForUser,
     PaPacOptions,
     PacRequest,
+    NegTokenInit,
+    NegTokenResp,
+    NegHints,
 }
 
 /// A SEQUENCE OF.
@@ -126,6 +142,7 @@ pub enum List {
     PaDatas,
     EtypeInfo,
     EtypeInfo2,
+    MechTypes,
 }
 
 /// What is in an item.
@@ -134,6 +151,10 @@ pub enum Shape {
     Leaf(Leaf),
     Sequence(Sequence),
     List(List),
+    /// An OCTET STRING with the token in one of SPNEGO.
+    Token,
+    /// An OCTET STRING or a NegHints.
+    Hints,
 }
 
 /// The type of an item: its tags, the outermost first, and what is in it.
@@ -170,6 +191,12 @@ macro_rules! field {
     };
     ($required:literal $index:literal $name:literal holder $holder:expr) => {
         field!($required $index $name [Tag::OctetString] Shape::Leaf(Leaf::Holder($holder)))
+    };
+    ($required:literal $index:literal $name:literal identifier) => {
+        field!($required $index $name [Tag::ObjectIdentifier] Shape::Leaf(Leaf::Identifier))
+    };
+    ($required:literal $index:literal $name:literal token) => {
+        field!($required $index $name [Tag::OctetString] Shape::Token)
     };
     ($required:literal $index:literal $name:literal truth) => {
         field!($required $index $name [Tag::Boolean] Shape::Leaf(Leaf::Truth))
@@ -368,6 +395,26 @@ static PAC_REQUEST: [Field; 1] = fields![
     (true 0 "include-pac" truth),
 ];
 
+static NEG_TOKEN_INIT: [Field; 5] = fields![
+    (false 0 "mechTypes" list List::MechTypes),
+    (false 1 "reqFlags" flags Registry::ContextFlags),
+    (false 2 "mechToken" token),
+    (false 3 "mechListMIC" [] Shape::Hints),
+    (false 4 "mechListMIC" octets Leaf::Hidden),
+];
+
+static NEG_TOKEN_RESP: [Field; 4] = fields![
+    (false 0 "negState" [Tag::Enumerated] Shape::Leaf(Leaf::Number)),
+    (false 1 "supportedMech" identifier),
+    (false 2 "responseToken" token),
+    (false 3 "mechListMIC" octets Leaf::Hidden),
+];
+
+static NEG_HINTS: [Field; 2] = fields![
+    (false 0 "hintName" text),
+    (false 1 "hintAddress" octets Leaf::Hidden),
+];
+
 impl Sequence {
     /// Returns its fields, in order.
     pub(crate) fn fields(self) -> &'static [Field]
@@ -400,6 +447,9 @@ impl Sequence {
             Sequence::PaForUser => &PA_FOR_USER,
             Sequence::PaPacOptions => &PA_PAC_OPTIONS,
             Sequence::PacRequest => &PAC_REQUEST,
+            Sequence::NegTokenInit => &NEG_TOKEN_INIT,
+            Sequence::NegTokenResp => &NEG_TOKEN_RESP,
+            Sequence::NegHints => &NEG_HINTS,
         }
     }
 }
@@ -424,6 +474,7 @@ impl List {
             List::PaDatas => of_sequence(Sequence::PaData),
             List::EtypeInfo => of_sequence(Sequence::EtypeInfoEntry),
             List::EtypeInfo2 => of_sequence(Sequence::EtypeInfo2Entry),
+            List::MechTypes => identifier_type(),
         }
     }
 }
@@ -519,6 +570,41 @@ impl Held {
             Held::EncryptedChallenge => of_sequence(Sequence::EncryptedData),
             Held::PacOptions => of_sequence(Sequence::PaPacOptions),
             Held::MethodData => of_list(List::PaDatas),
+        }
+    }
+}
+
+/// Returns the type of an OBJECT IDENTIFIER by itself.
+pub(crate) fn identifier_type() -> ItemType
+    ensures { type_of result ≡ identifier_type }
+{
+    ItemType {
+        tags: &[Tag::ObjectIdentifier],
+        shape: Shape::Leaf(Leaf::Identifier),
+    }
+}
+
+impl NegToken {
+    /// Returns its type.
+    pub(crate) fn item(self) -> ItemType
+        ensures { type_of result ≡ neg_type self }
+    {
+        match self {
+            NegToken::Init => in_first_tag(Sequence::NegTokenInit),
+            NegToken::Response => ItemType {
+                tags: &[Tag::Context(1), Tag::Sequence],
+                shape: Shape::Sequence(Sequence::NegTokenResp),
+            },
+        }
+    }
+
+    /// Returns the name of the field with the token.
+    pub(crate) fn field(self) -> &'static str
+        ensures { result.now ≡ neg_name self }
+    {
+        match self {
+            NegToken::Init => "mechToken",
+            NegToken::Response => "responseToken",
         }
     }
 }

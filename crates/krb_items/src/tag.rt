@@ -12,6 +12,10 @@ pub enum Tag {
     Application(u8),
     /// A BOOLEAN.
     Boolean,
+    /// An OBJECT IDENTIFIER.
+    ObjectIdentifier,
+    /// An ENUMERATED.
+    Enumerated,
     /// An INTEGER.
     Integer,
     /// A BIT STRING.
@@ -28,6 +32,8 @@ pub enum Tag {
     SequenceOf,
     /// The length of a frame, which has no tag (RFC 4120, 7.2.2).
     Frame,
+    /// Octets by themselves, which have no tag (RFC 4121, 4.1).
+    Octets,
 }
 
 impl Tag {
@@ -39,13 +45,15 @@ impl Tag {
             Tag::Context(index) => 0xA0 + index % 32,
             Tag::Application(number) => 0x60 + number % 32,
             Tag::Boolean => 0x01,
+            Tag::ObjectIdentifier => 0x06,
+            Tag::Enumerated => 0x0A,
             Tag::Integer => 0x02,
             Tag::BitString => 0x03,
             Tag::OctetString => 0x04,
             Tag::GeneralString => 0x1B,
             Tag::GeneralizedTime => 0x18,
             Tag::Sequence | Tag::SequenceOf => 0x30,
-            Tag::Frame => 0x00,
+            Tag::Frame | Tag::Octets => 0x00,
         }
     }
 }

@@ -1,30 +1,33 @@
 //! The items of octets, listed in order.
 
-ghost use Rattle.std.specs.Prelude.{◌≡◌, ◌+◌, ◌-◌, ◌^◌, ◌<◌, ◌≤◌, Some, drop, length, map, IfOk, string_bytes};
+ghost use Rattle.std.specs.Prelude.{◌≡◌, ◌+◌, ◌-◌, ◌*◌, ◌^◌, ◌<◌, ◌≤◌, Some, drop, length, map, IfOk, OnOk, string_bytes};
 ghost use Rattle.std.specs.Option.{option_copied};
 ghost use Rattle.krb_items.specs.Heads.{count_in};
-ghost use Rattle.krb_items.specs.Items.{begins_as, contents_items, element_items, ended, field_items, held_items, here_at, item_items, leaf_items, message_items, missing, most_levels, named, passed, ticket_items, unknown};
+ghost use Rattle.krb_items.specs.Items.{all_items, begins_as, container, contents_items, element_items, ended, field_items, held_items, hints_items, here_at, item_items, leaf_items, message_items, missing, named, passed, sequence_items, ticket_items, unknown};
 ghost use Rattle.krb_items.specs.Names.{element_path, field_path};
-ghost use Rattle.krb_items.specs.Records.{Lists};
-ghost use Rattle.krb_items.specs.Seen.{IsNear, begun_of, context_of, cut_of, here_of};
+ghost use Rattle.krb_items.specs.Records.{Lists, listed_item};
+ghost use Rattle.krb_items.specs.Seen.{IsNear, begun_of, context_of, cut_of, here_of, limits_of};
 ghost use Rattle.krb_items.specs.Shapes.{field_of, type_of};
 
 use crate::begun::Begun;
 use crate::head::{begins, count_of, from};
 use crate::held::number_after;
 use crate::listing::{End, Item, Listed, Source};
-use crate::shape::{Field, Held, ItemType, Leaf, Shape, message_type, ticket_type};
+use crate::shape::{Field, Held, ItemType, Leaf, Sequence, Shape, message_type, ticket_type};
 use crate::tag::Tag;
 use itoa::Buffer;
 use krb_msg::Kind;
+use krb_source::Layer;
 use std::alloc::{AllocError, Global};
 
 /// How deep the items of a message nest at most.
-const LEVELS: u8 = 16;
+pub(crate) const LEVELS: u8 = 16;
 
 /// What the items that are left of a container have in common.
 #[derive(Clone, Copy)]
 pub struct Here<'n> {
+    /// What they lie in.
+    pub layers: &'static [Layer],
     /// Its path.
     pub name: &'n str,
     /// Where they begin.
@@ -37,11 +40,11 @@ pub struct Here<'n> {
 
 /// What is left of a container.
 #[derive(Clone, Copy)]
-struct Rest<'a> {
+pub(crate) struct Rest<'a> {
     /// How many octets it may have.
-    room: u64,
+    pub(crate) room: u64,
     /// Those that are there.
-    octets: &'a [u8],
+    pub(crate) octets: &'a [u8],
 }
 
 impl<'a> Source<'a> {
@@ -61,18 +64,17 @@ impl<'a> Source<'a> {
     }
 
     /// Lists that octets begin none of the items that may be there.
-    fn unknown(
+    pub(crate) fn unknown(
         self,
         out: &mut Listed,
         name: Option<&str>,
-        place: u64,
-        depth: u64,
+        here: Here<'_>,
         octets: &'a [u8],
     ) -> Result<End, AllocError>
-        requires { place < 2 ^ 40 }
-        ensures { IfOk result (Lists (context_of self.entry) (unknown (option_copied name.entry) place depth octets.now) out.old out.new) }
+        requires { here.place < 2 ^ 40 }
+        ensures { IfOk result (Lists (context_of self.entry) (unknown (option_copied name.entry) (here_of here.entry) octets.now) out.old out.new) }
     {
-        let mut begun = Begun::new(self.alloc, place, depth);
+        let mut begun = Begun::new(self.alloc, here);
         begun.add_unknown(octets)?;
         self.cut(out, name, &begun, false)
     }
@@ -85,22 +87,27 @@ impl<'a> Source<'a> {
         if rest.room == 0 {
             return Ok(End::Whole);
         }
-        self.unknown(out, Some(here.name), here.place, here.depth, rest.octets)
+        self.unknown(out, Some(here.name), here, rest.octets)
     }
 
     /// Lists that a field is missing.
-    fn missing(self, out: &mut Listed, here: Here<'_>, name: &str) -> Result<End, AllocError>
+    pub(crate) fn missing(
+        self,
+        out: &mut Listed,
+        here: Here<'_>,
+        name: &str,
+    ) -> Result<End, AllocError>
         requires { here.place < 2 ^ 40 }
         ensures { IfOk result (Lists (context_of self.entry) (missing (here_of here.entry) name.now) out.old out.new) }
     {
         let path = field_name(self.alloc, here.name, name)?;
-        let begun = Begun::new(self.alloc, here.place, here.depth);
+        let begun = Begun::new(self.alloc, here);
         self.cut(out, Some(path.as_str()), &begun, false)
     }
 
     /// Lists an item of a type that holds none, and what its octets are all of.
     #[cycle(items)]
-    fn leaf(
+    pub(crate) fn leaf(
         self,
         out: &mut Listed,
         levels: u8,
@@ -111,8 +118,8 @@ impl<'a> Source<'a> {
     ) -> Result<End, AllocError>
         requires begun { IsNear begun.now }
         requires near { begun.now.next + length octets.now < 2 ^ 40 }
-        requires shallow { begun.now.depth + levels + 1 < 2 ^ 32 }
-        ensures { IfOk result (Lists (context_of self.entry) (leaf_items (item_items levels self.entry.limit) self.entry.limit (here_of here.entry) (begun_of begun.now) leaf octets.now) out.old out.new) }
+        requires shallow { begun.now.depth + 3 * levels + 3 < 2 ^ 32 }
+        ensures { IfOk result (Lists (context_of self.entry) (leaf_items (item_items levels (limits_of self.entry)) (limits_of self.entry) (here_of here.entry) (begun_of begun.now) leaf octets.now) out.old out.new) }
     {
         let seen = leaf.after(here.number);
         if begun.next + begun.count() > self.limit {
@@ -142,24 +149,24 @@ impl<'a> Source<'a> {
     ) -> Result<End, AllocError>
         requires begun { IsNear begun.now }
         requires near { begun.now.next + length octets.now < 2 ^ 40 }
-        requires shallow { begun.now.depth + levels + 1 < 2 ^ 32 }
-        ensures { IfOk result (Lists (context_of self.entry) (held_items (item_items levels self.entry.limit) name.now (begun_of begun.now) octets.now held) out.old out.new) }
+        requires shallow { begun.now.depth + 3 * levels + 3 < 2 ^ 32 }
+        ensures { IfOk result (Lists (context_of self.entry) (held_items (item_items levels (limits_of self.entry)) name.now (begun_of begun.now) octets.now held) out.old out.new) }
     {
         let path = field_name(self.alloc, name, held.name())?;
         let shown = Some((Leaf::Opened, octets));
         self.list(out, Item { name, begun, shown })?;
-        let here = Here {
-            name: path.as_str(),
-            place: begun.next,
-            depth: begun.depth + 1,
-            number: None,
-        };
-        self.item(out, levels, here, held.item(), octets)
+        self.item(
+            out,
+            levels,
+            begun.inside(path.as_str()),
+            held.item(),
+            octets,
+        )
     }
 
     /// Lists an item of a type and what is in it.
     #[cycle(items)]
-    fn item(
+    pub(crate) fn item(
         self,
         out: &mut Listed,
         levels: u8,
@@ -168,16 +175,16 @@ impl<'a> Source<'a> {
         octets: &'a [u8],
     ) -> Result<End, AllocError>
         requires near { here.place + length octets.now < 2 ^ 40 }
-        requires shallow { here.depth + levels < 2 ^ 32 }
-        ensures { IfOk result (Lists (context_of self.entry) (item_items levels self.entry.limit (here_of here.entry) (type_of of) octets.now) out.old out.new) }
+        requires shallow { here.depth + 3 * levels < 2 ^ 32 }
+        ensures { IfOk result (Lists (context_of self.entry) (item_items levels (limits_of self.entry) (here_of here.entry) (type_of of) octets.now) out.old out.new) }
     {
         if levels == 0 {
             return Ok(End::Whole);
         }
-        let mut begun = Begun::new(self.alloc, here.place, here.depth);
+        let mut begun = Begun::new(self.alloc, here);
         match begun.read(self.limit, of.tags, octets)? {
             None => self.cut(out, Some(here.name), &begun, false),
-            Some(contents) => { self.contents(out, levels - 1, here, of.shape, &begun, contents) }
+            Some(contents) => self.contents(out, levels - 1, here, of.shape, begun, contents),
         }
     }
 
@@ -189,40 +196,91 @@ impl<'a> Source<'a> {
         levels: u8,
         own: Here<'_>,
         shape: Shape,
+        begun: Begun<'a>,
+        octets: &'a [u8],
+    ) -> Result<End, AllocError>
+        requires begun { IsNear begun }
+        requires near { begun.next + length octets.now < 2 ^ 40 }
+        requires shallow { begun.depth + 3 * levels + 3 < 2 ^ 32 }
+        ensures { IfOk result (Lists (context_of self.entry) (contents_items (item_items levels (limits_of self.entry)) (limits_of self.entry) (here_of own.entry) shape (begun_of begun.entry) octets.now) out.old out.new) }
+    {
+        match shape {
+            Shape::Leaf(leaf) => self.leaf(out, levels, own, &begun, leaf, octets),
+            Shape::Token => self.token(out, levels, own, &begun, octets),
+            Shape::Hints => self.hints(out, levels, own, begun, octets),
+            Shape::Sequence(sequence) => self.sequence(out, levels, own, sequence, &begun, octets),
+            Shape::List(list) => {
+                self.list_container(out, own.name, &begun)?;
+                let rest = begun.rest(octets);
+                self.elements(out, levels, begun.inside(own.name), list.item(), rest)
+            }
+        }
+    }
+
+    /// Lists an item that holds others.
+    pub(crate) fn list_container(
+        self,
+        out: &mut Listed,
+        name: &str,
+        begun: &Begun<'a>,
+    ) -> Result<(), AllocError>
+        requires { IsNear begun.now }
+        ensures { OnOk result (out.new ≡ listed_item (context_of self.entry) (container name.now (begun_of begun.now)) out.old) }
+    {
+        let shown = None;
+        self.list(out, Item { name, begun, shown })
+    }
+
+    /// Lists a SEQUENCE whose heads are right, and what is in it.
+    #[cycle(items)]
+    fn sequence(
+        self,
+        out: &mut Listed,
+        levels: u8,
+        own: Here<'_>,
+        sequence: Sequence,
         begun: &Begun<'a>,
         octets: &'a [u8],
     ) -> Result<End, AllocError>
         requires begun { IsNear begun.now }
         requires near { begun.now.next + length octets.now < 2 ^ 40 }
-        requires shallow { begun.now.depth + levels + 1 < 2 ^ 32 }
-        ensures { IfOk result (Lists (context_of self.entry) (contents_items (item_items levels self.entry.limit) self.entry.limit (here_of own.entry) shape (begun_of begun.now) octets.now) out.old out.new) }
+        requires shallow { begun.now.depth + 3 * levels + 3 < 2 ^ 32 }
+        ensures { IfOk result (Lists (context_of self.entry) (sequence_items (item_items levels (limits_of self.entry)) (here_of own.entry) sequence (begun_of begun.now) octets.now) out.old out.new) }
     {
-        let name = own.name;
-        let here = Here {
-            name,
-            place: begun.next,
-            depth: begun.depth + 1,
-            number: None,
+        self.list_container(out, own.name, begun)?;
+        let rest = begun.rest(octets);
+        self.fields(out, levels, begun.inside(own.name), sequence.fields(), rest)
+    }
+
+    /// Lists a NegHints, or else an OCTET STRING.
+    #[cycle(items)]
+    fn hints(
+        self,
+        out: &mut Listed,
+        levels: u8,
+        own: Here<'_>,
+        begun: Begun<'a>,
+        octets: &'a [u8],
+    ) -> Result<End, AllocError>
+        requires begun { IsNear begun }
+        requires near { begun.next + length octets.now < 2 ^ 40 }
+        requires shallow { begun.depth + 3 * levels + 3 < 2 ^ 32 }
+        ensures { IfOk result (Lists (context_of self.entry) (hints_items (item_items levels (limits_of self.entry)) (limits_of self.entry) (here_of own.entry) (begun_of begun.entry) octets.now) out.old out.new) }
+    {
+        let mut begun = begun;
+        let is_sequence = begins(octets, Tag::Sequence.octet());
+        let tag = if is_sequence {
+            Tag::Sequence
+        } else {
+            Tag::OctetString
         };
-        let rest = Rest {
-            room: begun.count(),
-            octets,
+        let Some(contents) = begun.read(self.limit, &[tag], octets)? else {
+            return self.cut(out, Some(own.name), &begun, false);
         };
-        let container = Item {
-            name,
-            begun,
-            shown: None,
-        };
-        match shape {
-            Shape::Leaf(leaf) => self.leaf(out, levels, own, begun, leaf, octets),
-            Shape::Sequence(sequence) => {
-                self.list(out, container)?;
-                self.fields(out, levels, here, sequence.fields(), rest)
-            }
-            Shape::List(list) => {
-                self.list(out, container)?;
-                self.elements(out, levels, here, list.item(), rest)
-            }
+        if is_sequence {
+            self.sequence(out, levels, own, Sequence::NegHints, &begun, contents)
+        } else {
+            self.leaf(out, levels, own, &begun, Leaf::Hidden, contents)
         }
     }
 
@@ -237,8 +295,8 @@ impl<'a> Source<'a> {
         rest: Rest<'a>,
     ) -> Result<End, AllocError>
         requires near { here.place + length rest.octets.now < 2 ^ 40 }
-        requires shallow { here.depth + levels < 2 ^ 32 }
-        ensures { IfOk result (Lists (context_of self.entry) (field_items (item_items levels self.entry.limit) (here_of here.entry) (map field_of fields.now) rest.entry.room rest.entry.octets.now) out.old out.new) }
+        requires shallow { here.depth + 3 * levels < 2 ^ 32 }
+        ensures { IfOk result (Lists (context_of self.entry) (field_items (item_items levels (limits_of self.entry)) (here_of here.entry) (map field_of fields.now) rest.entry.room rest.entry.octets.now) out.old out.new) }
     {
         let [field, others @ ..] = fields else {
             return self.ended(out, here, rest);
@@ -282,8 +340,8 @@ impl<'a> Source<'a> {
         contents: Rest<'a>,
     ) -> Result<End, AllocError>
         requires near { here.place + length contents.octets.now < 2 ^ 40 }
-        requires shallow { here.depth + levels < 2 ^ 32 }
-        ensures { IfOk result (Lists (context_of self.entry) (element_items (item_items levels self.entry.limit) (type_of of) (length contents.entry.octets.now) 0 (here_of here.entry) contents.entry.room contents.entry.octets.now) out.old out.new) }
+        requires shallow { here.depth + 3 * levels < 2 ^ 32 }
+        ensures { IfOk result (Lists (context_of self.entry) (element_items (item_items levels (limits_of self.entry)) (type_of of) (length contents.entry.octets.now) 0 (here_of here.entry) contents.entry.room contents.entry.octets.now) out.old out.new) }
     {
         let mut next = here;
         let mut rest = contents;
@@ -302,54 +360,73 @@ impl<'a> Source<'a> {
         self.ended(out, next, rest)
     }
 
-    /// Lists a message, of which the first octet is at a place.
+    /// Lists a message.
+    #[cycle(items)]
+    pub(crate) fn message(
+        self,
+        out: &mut Listed,
+        levels: u8,
+        here: Here<'_>,
+        octets: &'a [u8],
+    ) -> Result<End, AllocError>
+        requires near { here.place + length octets.now < 2 ^ 40 }
+        requires shallow { here.depth + 3 * levels < 2 ^ 32 }
+        ensures { IfOk result (Lists (context_of self.entry) (message_items (item_items levels (limits_of self.entry)) (here_of here.entry) octets.now) out.old out.new) }
+    {
+        let Some(first) = octets.first() else {
+            return self.unknown(out, None, here, octets);
+        };
+        let Some(kind) = Kind::of_tag(*first) else {
+            return self.unknown(out, None, here, octets);
+        };
+        let own = Here::new(here.layers, kind.name(), here.place, here.depth);
+        self.item(out, levels, own, message_type(kind), octets)
+    }
+
+    /// Lists a message by itself or in a frame.
     pub(crate) fn list_message(
         self,
         out: &mut Listed,
-        place: u64,
-        depth: u64,
+        here: Here<'_>,
         octets: &'a [u8],
     ) -> Result<End, AllocError>
-        requires near { place + length octets.now < 2 ^ 40 }
-        requires shallow { depth < 2 ^ 31 }
-        ensures { IfOk result (Lists (context_of self.entry) (message_items self.entry.limit place depth octets.now) out.old out.new) }
+        requires near { here.place + length octets.now < 2 ^ 40 }
+        requires shallow { here.depth < 2 ^ 31 }
+        ensures { IfOk result (Lists (context_of self.entry) (message_items (all_items (limits_of self.entry)) (here_of here.entry) octets.now) out.old out.new) }
     {
-        let Some(first) = octets.first() else {
-            return self.unknown(out, None, place, depth, octets);
-        };
-        let Some(kind) = Kind::of_tag(*first) else {
-            return self.unknown(out, None, place, depth, octets);
-        };
-        let here = Here {
-            name: kind.name(),
-            place,
-            depth,
-            number: None,
-        };
-        self.item(out, LEVELS, here, message_type(kind), octets)
+        self.message(out, LEVELS, here, octets)
     }
 
     /// Lists a Ticket, of which the first octet is at place 0.
     pub(crate) fn list_ticket(self, out: &mut Listed, octets: &'a [u8]) -> Result<End, AllocError>
         requires { length octets.now < 2 ^ 40 }
-        ensures { IfOk result (Lists (context_of self.entry) (ticket_items self.entry.limit octets.now) out.old out.new) }
+        ensures { IfOk result (Lists (context_of self.entry) (ticket_items (limits_of self.entry) octets.now) out.old out.new) }
     {
-        let here = Here {
-            name: "Ticket",
-            place: 0,
-            depth: 0,
-            number: None,
-        };
+        let here = Here::new(&[], "Ticket", 0, 0);
         self.item(out, LEVELS, here, ticket_type(), octets)
     }
 }
 
 impl<'n> Here<'n> {
+    /// Returns where items begin of which none is before.
+    pub(crate) fn new(layers: &'static [Layer], name: &'n str, place: u64, depth: u64) -> Here<'n>
+        ensures { here_of result ≡ here_at layers.now name.now place depth }
+    {
+        Here {
+            layers,
+            name,
+            place,
+            depth,
+            number: None,
+        }
+    }
+
     /// Returns the same with the path of an item.
-    fn named<'p>(self, name: &'p str) -> Here<'p>
+    pub(crate) fn named<'p>(self, name: &'p str) -> Here<'p>
         ensures { here_of result ≡ named (here_of self.entry) name.entry.now }
     {
         Here {
+            layers: self.layers,
             name,
             place: self.place,
             depth: self.depth,
@@ -358,11 +435,12 @@ impl<'n> Here<'n> {
     }
 
     /// Returns what follows so many octets, after a number.
-    fn after(self, count: u64, number: Option<i64>) -> Here<'n>
+    pub(crate) fn after(self, count: u64, number: Option<i64>) -> Here<'n>
         requires { self.place + count < 2 ^ 40 }
         ensures { here_of result ≡ passed (here_of self.entry) count number }
     {
         Here {
+            layers: self.layers,
             name: self.name,
             place: self.place + count,
             depth: self.depth,
@@ -373,7 +451,7 @@ impl<'n> Here<'n> {
 
 impl<'a> Rest<'a> {
     /// Returns what follows so many octets.
-    fn after(self, count: u64) -> Rest<'a>
+    pub(crate) fn after(self, count: u64) -> Rest<'a>
         ensures room { result.room ≡ self.entry.room - count }
         ensures octets { result.octets.now ≡ drop count self.entry.octets.now }
     {
@@ -385,7 +463,7 @@ impl<'a> Rest<'a> {
 }
 
 /// Returns whether octets begin with the first of tags.
-fn begin_as(tags: &[Tag], octets: &[u8]) -> bool
+pub(crate) fn begin_as(tags: &[Tag], octets: &[u8]) -> bool
     ensures { result ≡ begins_as tags.now octets.now }
 {
     match tags.first() {
@@ -395,7 +473,7 @@ fn begin_as(tags: &[Tag], octets: &[u8]) -> bool
 }
 
 /// Returns the path of a field.
-fn field_name(alloc: Global, path: &str, name: &str) -> Result<String, AllocError>
+pub(crate) fn field_name(alloc: Global, path: &str, name: &str) -> Result<String, AllocError>
     ensures { IfOk result (λ text. string_bytes text ≡ field_path path.now name.now) }
 {
     let mut text = String::new(alloc);

@@ -58,6 +58,9 @@ fn type_word(tag: Tag) -> &'static str
         Tag::Sequence => "SEQUENCE",
         Tag::SequenceOf => "SEQUENCE-OF",
         Tag::Frame => "frame",
+        Tag::Octets => "octets",
+        Tag::ObjectIdentifier => "OBJECT-IDENTIFIER",
+        Tag::Enumerated => "ENUMERATED",
     }
 }
 

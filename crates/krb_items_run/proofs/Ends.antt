@@ -1,5 +1,5 @@
 -- How a listing of items ends: as that of the message.
-use Rattle.std.proofs.Common.{◌≡◌, ℕ, Bool, true, false, if◌then◌else◌, List, [], ◌∷◌, ◌++◌, length, Option, Some, None, Result, Ok, Err, refl, sym, subst}
+use Rattle.std.proofs.Common.{◌≡◌, ℕ, Bool, true, false, if◌then◌else◌, List, [], ◌∷◌, ◌++◌, length, take, Option, Some, None, Result, Ok, Err, refl, sym, subst}
 use Rattle.std.specs.Prelude.{nat_lt}
 use Rattle.std.specs.Option.{option_map}
 use Rattle.krb_der.specs.declared.profile.Profile.{Profile}
@@ -8,17 +8,17 @@ use Rattle.krb_input.specs.Inputs.{spelled}
 use Rattle.krb_judge.specs.Parses.{refusal_of, ticket_refusal}
 use Rattle.krb_record.specs.Labels.{Label}
 use Rattle.krb_source.specs.declared.layer.Layer.{Layer}
-use Rattle.krb_source.specs.declared.layer.Layer.TheVariants as layer
 use Rattle.krb_source.specs.declared.spelling.Spelling.{Spelling}
 use Rattle.krb_token.specs.Opened.{Found, Message, Ntlm, Part, Refused, Ticket}
 use Rattle.krb_token.specs.Tokens.{opened}
-use Rattle.krb_items.specs.Reached.{believed, reached}
+use Rattle.krb_items.specs.Reached.{believed}
 use Rattle.krb_items.specs.declared.listing.Listed.{Listed}
+use Rattle.krb_items.specs.declared.reaching.Lies.{Lies}
 use Rattle.krb_items.specs.declared.reaching.Lies.TheVariants as lies
 use Rattle.krb_run.specs.Files.{FileListing}
 use Rattle.krb_run.specs.declared.run.RunEnd.TheVariants as run
 use Rattle.krb_tool.specs.Messages.{Layered, OneRecord, found_listing, input_limit, input_octets_listing, judged_listing, listing_with, message_listing, opened_listing, spelled_in, spelled_listing, ticket_listing, too_long_listing, unread_listing, whole_input}
-use Rattle.krb_items_run.specs.Items.{Listable, at_place, believed_text, found_items, found_listable, items_listing, judged_items, lies_in, octets_items, refused_layer, spelled_items}
+use Rattle.krb_items_run.specs.Items.{Listable, at_place, believed_text, found_items, found_listable, items_listing, judged_items, layer_listable, lies_in, octets_items, reached_of, refused_after, spelled_items}
 use Rattle.krb_items_run.specs.Laws.{EndsAs, IsLast}
 use Rattle.krb_record.specs.declared.input.InputFault.TheVariants as faults
 
@@ -34,46 +34,51 @@ layered_by spelling layers octets = record { all = octets; spelling = spelling; 
 
 -- ---- what is found
 -- what is whole has its count, and what is refused follows what is reached of it
-message-ends : (label : Label) (profile : Profile) (octets : List ℕ) (layered : Layered) (part : Part) (found : Listable) (listed : Listed) (fault : Option Refusal) →
+message-ends : (label : Label) (profile : Profile) (octets : List ℕ) (layered : Layered) (part : Part) (lies : Lies) (listed : Listed) (fault : Option Refusal) →
     EndsAs label (listing_with label (judged_listing (whole_input label.form profile) layered part.place part.octets fault))
-    (judged_items label profile octets found listed (option_map (at_place part.place) fault) (listing_with label (judged_listing (whole_input label.form profile) layered part.place part.octets fault)))
-message-ends label profile octets layered part found listed None = record { end = refl; last = (listed.count, (listed.text, refl)) }
-message-ends label profile octets layered part found listed (Some refusal) =
-    record { end = refl; last = (believed_text label profile found octets listed.text (believed found.lies octets (at_place part.place refusal)), refl) }
+    (judged_items label profile octets lies listed (option_map (at_place part.place) fault) (listing_with label (judged_listing (whole_input label.form profile) layered part.place part.octets fault)))
+message-ends label profile octets layered part lies listed None = record { end = refl; last = (listed.count, (listed.text, refl)) }
+message-ends label profile octets layered part lies listed (Some refusal) =
+    record { end = refl; last = (believed_text label profile lies octets listed.text (believed lies octets (at_place part.place refusal)), refl) }
 
-ticket-ends : (label : Label) (profile : Profile) (octets : List ℕ) (layered : Layered) (found : Listable) (listed : Listed) (fault : Option Refusal) →
+ticket-ends : (label : Label) (profile : Profile) (octets : List ℕ) (layered : Layered) (lies : Lies) (listed : Listed) (fault : Option Refusal) →
     EndsAs label (listing_with label (ticket_listing (whole_input label.form profile) layered fault))
-    (judged_items label profile octets found listed fault (listing_with label (ticket_listing (whole_input label.form profile) layered fault)))
-ticket-ends label profile octets layered found listed None = record { end = refl; last = (listed.count, (listed.text, refl)) }
-ticket-ends label profile octets layered found listed (Some refusal) = record { end = refl; last = (believed_text label profile found octets listed.text (believed found.lies octets refusal), refl) }
+    (judged_items label profile octets lies listed fault (listing_with label (ticket_listing (whole_input label.form profile) layered fault)))
+ticket-ends label profile octets layered lies listed None = record { end = refl; last = (listed.count, (listed.text, refl)) }
+ticket-ends label profile octets layered lies listed (Some refusal) = record { end = refl; last = (believed_text label profile lies octets listed.text (believed lies octets refusal), refl) }
 
-layer-ends : (label : Label) (profile : Profile) (octets : List ℕ) (layers : List Layer) (refusal : Refusal) (one : OneRecord) → one.end ≡ run.RefusedAtOnce →
-    EndsAs label (listing_with label one) (found_items label profile octets (refused_layer layers refusal) (listing_with label one))
-layer-ends label profile octets [] refusal one is = refused-alone label one is
-layer-ends label profile octets (layer.Frame ∷ layers) refusal one is =
-    let found : Listable = record { layers = layer.Frame ∷ layers; lies = lies.Framed; fault = Some refusal } in
-    let listed : Listed = reached label [] (layer.Frame ∷ layers) lies.Framed octets (Some refusal) in
-    record {
-      end = refl;
-      last = subst (λ end. IsLast label (listing_with label one) end (believed_text label profile found octets listed.text (believed lies.Framed octets refusal) ++ (listing_with label one).text)) (sym is)
-          (believed_text label profile found octets listed.text (believed lies.Framed octets refusal), refl);
-    }
-layer-ends label profile octets (layer.Gss ∷ layers) refusal one is = refused-alone label one is
-layer-ends label profile octets (layer.Spnego ∷ layers) refusal one is = refused-alone label one is
+after-ends : (label : Label) (text : List ℕ) (one : OneRecord) → one.end ≡ run.RefusedAtOnce → EndsAs label (listing_with label one) (refused_after text (listing_with label one))
+after-ends label text one is = record {
+  end = refl;
+  last = subst (λ end. IsLast label (listing_with label one) end (text ++ (listing_with label one).text)) (sym is) (text, refl);
+}
+
+refused-ends : (label : Label) (profile : Profile) (octets : List ℕ) (layers : List Layer) (refusal : Refusal) (one : OneRecord) → one.end ≡ run.RefusedAtOnce →
+    EndsAs label (listing_with label one) (found_items label profile octets (layer_listable layers octets (Some refusal) None) (listing_with label one))
+refused-ends label profile octets [] refusal one is = refused-alone label one is
+refused-ends label profile octets (layer ∷ layers) refusal one is =
+    let found : Listable = record { lies = lies_in (layer ∷ layers) octets; fault = Some refusal; ntlm = None } in
+    after-ends label (believed_text label profile found.lies octets (reached_of label [] found octets).text (believed found.lies octets refusal)) one is
+
+ntlm-ends : (label : Label) (profile : Profile) (octets : List ℕ) (layers : List Layer) (place : ℕ) (one : OneRecord) → one.end ≡ run.RefusedAtOnce →
+    EndsAs label (listing_with label one) (found_items label profile octets (layer_listable layers octets None (Some place)) (listing_with label one))
+ntlm-ends label profile octets [] place one is = refused-alone label one is
+ntlm-ends label profile octets (layer ∷ layers) place one is =
+    let found : Listable = record { lies = lies_in (layer ∷ layers) octets; fault = None; ntlm = Some place } in
+    after-ends label (reached_of label [] found octets).text one is
 
 found-ends : (label : Label) (profile : Profile) (octets : List ℕ) (spelling : Spelling) (layers : List Layer) (found : Found) →
     EndsAs label (listing_with label (found_listing (whole_input label.form profile) (layered_by spelling layers octets) found))
     (found_items label profile octets (found_listable profile octets layers found) (listing_with label (found_listing (whole_input label.form profile) (layered_by spelling layers octets) found)))
 found-ends label profile octets spelling layers (Message part) =
-    let fault : Option Refusal = option_map (at_place part.place) (refusal_of profile part.octets) in
-    message-ends label profile octets (layered_by spelling layers octets) part (record { layers = layers; lies = lies_in layers part.place; fault = fault })
-    (reached label [] layers (lies_in layers part.place) octets fault) (refusal_of profile part.octets)
+    let found : Listable = record { lies = lies_in layers octets; fault = option_map (at_place part.place) (refusal_of profile part.octets); ntlm = None } in
+    message-ends label profile octets (layered_by spelling layers octets) part found.lies (reached_of label [] found octets) (refusal_of profile part.octets)
 found-ends label profile octets spelling layers Ticket =
-    ticket-ends label profile octets (layered_by spelling layers octets) (record { layers = layers; lies = lies.Ticket; fault = ticket_refusal profile octets })
-    (reached label [] layers lies.Ticket octets (ticket_refusal profile octets)) (ticket_refusal profile octets)
-found-ends label profile octets spelling layers (Ntlm place) = refused-alone label (found_listing (whole_input label.form profile) (layered_by spelling layers octets) (Ntlm place)) refl
+    let found : Listable = record { lies = lies.Ticket; fault = ticket_refusal profile octets; ntlm = None } in
+    ticket-ends label profile octets (layered_by spelling layers octets) found.lies (reached_of label [] found octets) (ticket_refusal profile octets)
+found-ends label profile octets spelling layers (Ntlm place) = ntlm-ends label profile octets layers place (found_listing (whole_input label.form profile) (layered_by spelling layers octets) (Ntlm place)) refl
 found-ends label profile octets spelling layers (Refused fault) =
-    layer-ends label profile octets layers (record { place = fault.place; why = fault.why }) (found_listing (whole_input label.form profile) (layered_by spelling layers octets) (Refused fault)) refl
+    refused-ends label profile octets layers (record { place = fault.place; why = fault.why }) (found_listing (whole_input label.form profile) (layered_by spelling layers octets) (Refused fault)) refl
 
 -- ---- octets, and an input
 -- where a test decides that both are one refusal, they end alike, and else if they do so

@@ -1,5 +1,5 @@
 -- The listing of the items of one message, by the input that spells its octets.
-use Rattle.std.specs.Prelude.{ℕ, pos, ◌+◌, ◌-◌, ◌≡◌, false, nat_lt, if◌then◌else◌, List, [], ◌∷◌, ◌++◌, length, take, drop, codes, Option, Some, None, Result, Ok, Err}
+use Rattle.std.specs.Prelude.{ℕ, pos, ◌+◌, ◌-◌, ◌≡◌, false, nat_lt, ◌==◌, if◌then◌else◌, List, [], ◌∷◌, ◌++◌, length, take, drop, codes, Option, Some, None, Result, Ok, Err}
 use Rattle.std.specs.Option.{option_map}
 use Rattle.krb_der.specs.declared.profile.Profile.{Profile}
 use Rattle.krb_der.specs.declared.verdict.Refusal.{Refusal}
@@ -18,51 +18,50 @@ use Rattle.krb_record.specs.Labels.{Label, line_of}
 use Rattle.krb_record.specs.Values.{Number, Printed, the, printed}
 use Rattle.krb_token.specs.Opened.{Found, Message, Ticket as IsTicket, Ntlm, Refused, Opened}
 use Rattle.krb_token.specs.Tokens.{opened}
+use Rattle.krb_items.specs.Fronts.{gss_verdict, spnego_verdict}
 use Rattle.krb_items.specs.Reached.{believed, reached}
 use Rattle.krb_items.specs.declared.listing.Listed.{Listed}
 use Rattle.krb_items.specs.declared.reaching.Lies.{Lies}
 use Rattle.krb_items.specs.declared.reaching.Lies.TheVariants as lies
+use Rattle.krb_items.specs.declared.shape.NegToken.{NegToken}
+use Rattle.krb_items.specs.declared.shape.NegToken.TheVariants as negs
 use Rattle.krb_run.specs.Files.{FileListing}
 use Rattle.krb_run.specs.declared.run.RunEnd.TheVariants as run
 use Rattle.krb_tool.specs.Messages.{input_limit, message_listing}
 
 -- ---- what octets are listed as, and what is refused of them
+-- where it is a message of NTLM in a token, its place, from which on nothing is listed
 pub record Listable : Type 0 where
-  pub layers : List Layer
   pub lies : Lies
   pub fault : Option Refusal
+  pub ntlm : Option ℕ
 
--- in how many items a message in layers is: a token of SPNEGO has an OCTET STRING for it
-abbrev pub depth_in : List Layer → ℕ
-depth_in [] = 0
-depth_in (layer.Frame ∷ layers) = 1 + depth_in layers
-depth_in (layer.Gss ∷ layers) = 1 + depth_in layers
-depth_in (layer.Spnego ∷ layers) = 2 + depth_in layers
+-- which token of SPNEGO octets begin with
+abbrev pub neg_in : List ℕ → NegToken
+neg_in [] = negs.Init
+neg_in (octet ∷ octets) = if octet == 0xA1 then negs.Response else negs.Init
 
--- a message by itself, in a frame, or in the layers of a token
-abbrev pub lies_in : List Layer → ℕ → Lies
-lies_in [] place = lies.Alone
-lies_in (layer.Frame ∷ layers) place = lies.Framed
-lies_in (layer.Gss ∷ layers) place = lies.Within place (depth_in (layer.Gss ∷ layers))
-lies_in (layer.Spnego ∷ layers) place = lies.Within place (depth_in (layer.Spnego ∷ layers))
+-- a message by itself, or octets in layers
+abbrev pub lies_in : List Layer → List ℕ → Lies
+lies_in [] octets = lies.Alone
+lies_in (layer.Frame ∷ layers) octets = lies.Framed
+lies_in (layer.Gss ∷ layers) octets = lies.Gss
+lies_in (layer.Spnego ∷ layers) octets = lies.Spnego (neg_in octets)
 
 -- the refusal of octets of which the first is at a place
 abbrev pub at_place : ℕ → Refusal → Refusal
 at_place place refusal = record { place = place + refusal.place; why = refusal.why }
 
--- of a layer that is refused: of those of a token nothing is listed
-abbrev pub refused_layer : List Layer → Refusal → Option Listable
-refused_layer [] refusal = None
-refused_layer (layer.Frame ∷ layers) refusal = Some (record { layers = layer.Frame ∷ layers; lies = lies.Framed; fault = Some refusal })
-refused_layer (layer.Gss ∷ layers) refusal = None
-refused_layer (layer.Spnego ∷ layers) refusal = None
+-- of what is found in layers, if it lies in some
+abbrev pub layer_listable : List Layer → List ℕ → Option Refusal → (ntlm : Option ℕ) → Option Listable
+layer_listable [] octets fault ntlm = None
+layer_listable (layer ∷ layers) octets fault ntlm = Some (record { lies = lies_in (layer ∷ layers) octets; fault = fault; ntlm = ntlm })
 
 abbrev pub found_listable : Profile → List ℕ → List Layer → Found → Option Listable
-found_listable profile octets layers (Message part) =
-    Some (record { layers = layers; lies = lies_in layers part.place; fault = option_map (at_place part.place) (refusal_of profile part.octets) })
-found_listable profile octets layers IsTicket = Some (record { layers = layers; lies = lies.Ticket; fault = ticket_refusal profile octets })
-found_listable profile octets layers (Ntlm place) = None
-found_listable profile octets layers (Refused fault) = refused_layer layers (record { place = fault.place; why = fault.why })
+found_listable profile octets layers (Message part) = Some (record { lies = lies_in layers octets; fault = option_map (at_place part.place) (refusal_of profile part.octets); ntlm = None })
+found_listable profile octets layers IsTicket = Some (record { lies = lies.Ticket; fault = ticket_refusal profile octets; ntlm = None })
+found_listable profile octets layers (Ntlm place) = layer_listable layers octets None (Some place)
+found_listable profile octets layers (Refused fault) = layer_listable layers octets (Some (record { place = fault.place; why = fault.why })) None
 
 abbrev pub opened_listable : Profile → List ℕ → Opened → Option Listable
 opened_listable profile octets o = found_listable profile octets o.layers o.found
@@ -71,19 +70,21 @@ abbrev pub listable : Profile → List ℕ → Option Listable
 listable profile octets = opened_listable profile octets (opened octets)
 
 -- ---- if the first length is believed
--- what the first octets of that length are judged as; all of them are not there if the octets are fewer
+-- what the octets decide that are there of so many
 abbrev pub front_verdict : Profile → Lies → (size : ℕ) → List ℕ → Verdict
 front_verdict profile lies.Framed size octets = judgement profile (size - 4) (drop 4 octets)
 front_verdict profile lies.Ticket size octets = term_judgement (profile_term profile false ticket) size octets
 front_verdict profile lies.Alone size octets = judgement profile size octets
-front_verdict profile (lies.Within place depth) size octets = judgement profile size octets
+front_verdict profile lies.Gss size octets = gss_verdict profile size octets
+front_verdict profile (lies.Spnego neg) size octets = spnego_verdict profile neg size octets
 
 -- the place of the first octet of a message
 abbrev pub start_of : Lies → ℕ
 start_of lies.Framed = 4
 start_of lies.Ticket = 0
 start_of lies.Alone = 0
-start_of (lies.Within place depth) = 0
+start_of lies.Gss = 0
+start_of (lies.Spnego neg) = 0
 
 abbrev pub fault_of : (start count : ℕ) → Verdict → Option Refusal
 fault_of start count verdict.Whole = None
@@ -93,14 +94,32 @@ fault_of start count (verdict.Refused refusal) = Some (at_place start refusal)
 abbrev pub front_fault : Profile → Lies → (size : ℕ) → List ℕ → Option Refusal
 front_fault profile lies size octets = fault_of (start_of lies) (length octets) (front_verdict profile lies size octets)
 
+-- the first octets of that length are judged as any, unless they are fewer
+abbrev pub listable_or : Listable → Option Listable → Listable
+listable_or other None = other
+listable_or other (Some found) = found
+
+abbrev pub front_listable : Profile → Lies → (size : ℕ) → List ℕ → Listable
+front_listable profile lies size octets =
+    let cut : Listable = record { lies = lies; fault = front_fault profile lies size octets; ntlm = None } in
+    if nat_lt (length octets) size then cut else listable_or cut (listable profile octets)
+
+-- what is listed of octets after a text: the items before a message of NTLM, if one is there, or else all, up to the one at fault
+abbrev pub reached_before : Option ℕ → Label → List ℕ → Listable → List ℕ → Listed
+reached_before (Some place) label text found octets = reached label text found.lies (take place octets) None
+reached_before None label text found octets = reached label text found.lies octets found.fault
+
+abbrev pub reached_of : Label → List ℕ → Listable → List ℕ → Listed
+reached_of label text found octets = reached_before found.ntlm label text found octets
+
 abbrev pub believed_record : (size count : ℕ) → Printed
 believed_record size count = printed (codes "believed") (the (codes "length") (Number (pos size)) ∷ the (codes "octets") (Number (pos count)) ∷ [])
 
 -- a text, and after it what is listed of the octets of the length that is believed, if one is
-unfoldable pub believed_text : Label → Profile → Listable → List ℕ → List ℕ → Option ℕ → List ℕ
-believed_text label profile found octets text None = text
-believed_text label profile found octets text (Some size) =
-    (reached label (text ++ line_of label (believed_record size (length octets))) found.layers found.lies (take size octets) (front_fault profile found.lies size (take size octets))).text
+unfoldable pub believed_text : Label → Profile → Lies → List ℕ → List ℕ → Option ℕ → List ℕ
+believed_text label profile lies octets text None = text
+believed_text label profile lies octets text (Some size) =
+    (reached_of label (text ++ line_of label (believed_record size (length octets))) (front_listable profile lies size (take size octets)) (take size octets)).text
 
 -- ---- the listing
 abbrev pub items_end_record : ℕ → Printed
@@ -114,13 +133,18 @@ whole_items label listed = record { text = listed.text ++ line_of label (items_e
 abbrev pub refused_after : List ℕ → FileListing → FileListing
 refused_after text refused = record { text = text ++ refused.text; end = refused.end }
 
-abbrev pub judged_items : Label → Profile → List ℕ → Listable → Listed → Option Refusal → FileListing → FileListing
-judged_items label profile octets found listed None refused = whole_items label listed
-judged_items label profile octets found listed (Some refusal) refused = refused_after (believed_text label profile found octets listed.text (believed found.lies octets refusal)) refused
+-- what was listed, and the end, or after what is reached the record of the refusal
+abbrev pub judged_items : Label → Profile → List ℕ → Lies → Listed → Option Refusal → FileListing → FileListing
+judged_items label profile octets lies listed None refused = whole_items label listed
+judged_items label profile octets lies listed (Some refusal) refused = refused_after (believed_text label profile lies octets listed.text (believed lies octets refusal)) refused
+
+abbrev pub ended_items : Option ℕ → Label → Profile → List ℕ → Listable → Listed → FileListing → FileListing
+ended_items (Some place) label profile octets found listed refused = refused_after listed.text refused
+ended_items None label profile octets found listed refused = judged_items label profile octets found.lies listed found.fault refused
 
 abbrev pub found_items : Label → Profile → List ℕ → Option Listable → FileListing → FileListing
 found_items label profile octets None refused = refused
-found_items label profile octets (Some found) refused = judged_items label profile octets found (reached label [] found.layers found.lies octets found.fault) found.fault refused
+found_items label profile octets (Some found) refused = ended_items found.ntlm label profile octets found (reached_of label [] found octets) refused
 
 -- the items of octets; of more than a message may have there are none
 unfoldable pub octets_items : Label → Profile → List ℕ → FileListing → FileListing

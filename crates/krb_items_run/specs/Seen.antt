@@ -3,4 +3,4 @@ use Rattle.krb_items_run.specs.Items.{Listable}
 use Rattle.krb_items_run.specs.declared.listable.Listable.{Listable as ListableOfCode}
 
 abbrev pub listable_of : ListableOfCode → Listable
-listable_of found = record { layers = found.layers.now; lies = found.lies; fault = found.fault }
+listable_of found = record { lies = found.lies; fault = found.fault; ntlm = found.ntlm }

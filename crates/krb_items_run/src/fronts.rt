@@ -6,11 +6,12 @@ ghost use Rattle.krb_msg.specs.Judgement.{judgement, term_judgement};
 ghost use Rattle.krb_msg.specs.Nodes.{term_at};
 ghost use Rattle.krb_msg.specs.Profiles.{profile_term};
 ghost use Rattle.krb_msg.specs.Table.{IsNode};
-ghost use Rattle.krb_items_run.specs.Items.{front_fault, front_verdict, start_of};
+ghost use Rattle.krb_items_run.specs.Items.{front_fault, front_listable, front_verdict, start_of};
+ghost use Rattle.krb_items_run.specs.Seen.{listable_of};
 
-use crate::listable::at_place;
+use crate::listable::{Listable, at_place, find_listable};
 use krb_der::{Profile, Refusal, Verdict, Why};
-use krb_items::Lies;
+use krb_items::{Lies, judge_gss, judge_spnego};
 use krb_judge::judge_in;
 use krb_msg::grammar::{ROWS, Row};
 use krb_scan::judge_item;
@@ -75,7 +76,9 @@ fn front_verdict(profile: Profile, lies: Lies, size: u32, octets: &[u8]) -> Verd
     match lies {
         Lies::Framed => frame_verdict(profile, size, octets),
         Lies::Ticket => ticket_verdict(profile, size, octets),
-        Lies::Alone | Lies::Within { .. } => judged(profile, size, octets),
+        Lies::Alone => judged(profile, size, octets),
+        Lies::Gss => judge_gss(profile, size, octets),
+        Lies::Spnego(neg) => judge_spnego(profile, neg, size, octets),
     }
 }
 
@@ -89,8 +92,8 @@ fn start_of(lies: Lies) -> u32
     }
 }
 
-/// Returns what is refused of the first octets of a length that is believed, if something is.
-pub(crate) fn front_fault(profile: Profile, lies: Lies, size: u32, octets: &[u8]) -> Option<Refusal>
+/// Returns what is refused of the octets that are there of a length that is believed, if something is.
+fn front_fault(profile: Profile, lies: Lies, size: u32, octets: &[u8]) -> Option<Refusal>
     requires short { size < 2 ^ 31 }
     requires present { length octets.now ≤ size }
     ensures { result ≡ front_fault profile lies size octets.now }
@@ -102,5 +105,26 @@ pub(crate) fn front_fault(profile: Profile, lies: Lies, size: u32, octets: &[u8]
             why: Why::Truncated,
         }),
         Verdict::Refused(refusal) => Some(at_place(start_of(lies), refusal)),
+    }
+}
+
+/// Returns what the first octets of a length that is believed are listed as, and what is refused of them:
+/// as any octets, unless they are fewer.
+pub(crate) fn front_listable(profile: Profile, lies: Lies, size: u32, octets: &[u8]) -> Listable
+    requires short { size < 2 ^ 31 }
+    requires present { length octets.now ≤ size }
+    ensures { listable_of result ≡ front_listable profile lies size octets.now }
+{
+    let cut = Listable {
+        lies,
+        fault: front_fault(profile, lies, size, octets),
+        ntlm: None,
+    };
+    if octets.len() < size as usize {
+        return cut;
+    }
+    match find_listable(profile, octets) {
+        None => cut,
+        Some(found) => found,
     }
 }

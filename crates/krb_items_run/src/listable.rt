@@ -1,14 +1,13 @@
 //! What octets are listed as, and what is refused of them.
 
-ghost use Rattle.std.specs.Prelude.{◌≡◌, ◌+◌, ◌*◌, ◌^◌, ◌<◌, ◌≤◌, length, IfSome};
+ghost use Rattle.std.specs.Prelude.{◌≡◌, ◌+◌, ◌^◌, ◌<◌, length};
 ghost use Rattle.std.specs.Option.{option_map};
-ghost use Rattle.krb_items.specs.Reached.{IsShallow};
 ghost use Rattle.krb_judge.specs.Parses.{refusal_of, ticket_refusal};
-ghost use Rattle.krb_items_run.specs.Items.{at_place, depth_in, lies_in, listable, refused_layer};
+ghost use Rattle.krb_items_run.specs.Items.{at_place, layer_listable, lies_in, listable, neg_in};
 ghost use Rattle.krb_items_run.specs.Seen.{listable_of};
 
 use krb_der::{Profile, Refusal};
-use krb_items::Lies;
+use krb_items::{Lies, NegToken};
 use krb_judge::law::refusals_are_inside;
 use krb_judge::{read_message_in, read_ticket_in};
 use krb_token::{Found, Layer, open};
@@ -16,39 +15,31 @@ use krb_token::{Found, Layer, open};
 /// What octets are listed as, and what is refused of them.
 #[derive(Clone, Copy)]
 pub(crate) struct Listable {
-    pub(crate) layers: &'static [Layer],
     pub(crate) lies: Lies,
     pub(crate) fault: Option<Refusal>,
+    /// The place of a message of NTLM, from which on nothing is listed.
+    pub(crate) ntlm: Option<u32>,
 }
 
-/// Returns in how many items a message in layers is.
-fn depth_in(layers: &[Layer]) -> u32
-    requires { length layers.now ≤ 3 }
-    ensures depth { result ≡ depth_in layers.now }
-    ensures shallow { result ≤ 2 * length layers.now }
+/// Returns which token of SPNEGO octets begin with.
+fn neg_in(octets: &[u8]) -> NegToken
+    ensures { result ≡ neg_in octets.now }
 {
-    let Some((first, others)) = layers.split_first() else {
-        return 0;
-    };
-    match first {
-        Layer::Frame | Layer::Gss => 1 + depth_in(others),
-        Layer::Spnego => 2 + depth_in(others),
+    match octets.first() {
+        Some(0xA1) => NegToken::Response,
+        _ => NegToken::Init,
     }
 }
 
-/// Returns what octets with a message at a place are listed as.
-fn lies_in(layers: &[Layer], place: u32) -> Lies
-    requires { length layers.now ≤ 3 }
-    ensures lies { result ≡ lies_in layers.now place }
-    ensures shallow { IsShallow result }
+/// Returns what octets in layers are listed as, if there are some, or else a message by itself.
+fn lies_in(layers: &[Layer], octets: &[u8]) -> Lies
+    ensures { result ≡ lies_in layers.now octets.now }
 {
     match layers.first() {
         None => Lies::Alone,
         Some(Layer::Frame) => Lies::Framed,
-        Some(Layer::Gss | Layer::Spnego) => Lies::Within {
-            place,
-            depth: depth_in(layers),
-        },
+        Some(Layer::Gss) => Lies::Gss,
+        Some(Layer::Spnego) => Lies::Spnego(neg_in(octets)),
     }
 }
 
@@ -87,42 +78,48 @@ fn ticket_fault(profile: Profile, octets: &[u8]) -> Option<Refusal>
     }
 }
 
-/// Returns what octets of a layer that is refused are listed as.
-fn refused_layer(layers: &'static [Layer], refusal: Refusal) -> Option<Listable>
-    ensures found { option_map listable_of result ≡ refused_layer layers.now refusal }
-    ensures shallow { IfSome result (λ found. IsShallow found.lies) }
+/// Returns what octets are listed as that lie in layers, if they lie in some.
+fn layer_listable(
+    layers: &[Layer],
+    octets: &[u8],
+    fault: Option<Refusal>,
+    ntlm: Option<u32>,
+) -> Option<Listable>
+    ensures { option_map listable_of result ≡ layer_listable layers.now octets.now fault ntlm }
 {
     match layers.first() {
-        Some(Layer::Frame) => Some(Listable {
-            layers,
-            lies: Lies::Framed,
-            fault: Some(refusal),
+        None => None,
+        Some(_) => Some(Listable {
+            lies: lies_in(layers, octets),
+            fault,
+            ntlm,
         }),
-        _ => None,
     }
 }
 
-/// Returns what octets are listed as, and what is refused of them. Of a token's layer that is
-/// refused, and of a message of NTLM, nothing is listed.
+/// Returns what octets are listed as, and what is refused of them. Of a message of NTLM by itself
+/// nothing is listed.
 pub(crate) fn find_listable(profile: Profile, octets: &[u8]) -> Option<Listable>
     requires { length octets.now < 2 ^ 31 }
-    ensures found { option_map listable_of result ≡ listable profile octets.now }
-    ensures shallow { IfSome result (λ found. IsShallow found.lies) }
+    ensures { option_map listable_of result ≡ listable profile octets.now }
 {
     let opened = open(octets);
     let layers = opened.layers;
     match opened.found {
-        Found::Message { place, octets } => Some(Listable {
-            layers,
-            lies: lies_in(layers, place),
-            fault: message_fault(profile, place, octets),
+        Found::Message {
+            place,
+            octets: message,
+        } => Some(Listable {
+            lies: lies_in(layers, octets),
+            fault: message_fault(profile, place, message),
+            ntlm: None,
         }),
-        Found::Ticket(octets) => Some(Listable {
-            layers,
+        Found::Ticket(ticket) => Some(Listable {
             lies: Lies::Ticket,
-            fault: ticket_fault(profile, octets),
+            fault: ticket_fault(profile, ticket),
+            ntlm: None,
         }),
-        Found::Ntlm { .. } => None,
-        Found::Refused { refusal, .. } => refused_layer(layers, refusal),
+        Found::Ntlm { place } => layer_listable(layers, octets, None, Some(place)),
+        Found::Refused { refusal, .. } => layer_listable(layers, octets, Some(refusal), None),
     }
 }

@@ -1,18 +1,18 @@
 //! A run over one message, which an input spells, that lists its items.
 
 ghost use Rattle.std.specs.Prelude.{◌≡◌, ◌^◌, ◌<◌, Some, length, IfErr, IfOk};
-ghost use Rattle.krb_items.specs.Reached.{IsShallow, believed, reached};
+ghost use Rattle.krb_items.specs.Reached.{believed};
 ghost use Rattle.krb_run.specs.Files.{FailsFile, ListsFile, shown};
-ghost use Rattle.krb_items_run.specs.Items.{IsItemsListing, believed_text, found_items, octets_items, refused_after, whole_items};
+ghost use Rattle.krb_items_run.specs.Items.{IsItemsListing, believed_text, found_items, octets_items, reached_of, refused_after, whole_items};
 ghost use Rattle.krb_items_run.specs.Seen.{listable_of};
 ghost use Rattle.krb_tool.specs.Messages.{message_listing};
 
-use crate::fronts::front_fault;
+use crate::fronts::front_listable;
 use crate::listable::{Listable, find_listable};
 use crate::records::{put_believed, put_items_end};
 use krb_der::{Profile, Refusal};
 use krb_input::{InputFault, read_input};
-use krb_items::{Listed, believed, list_octets};
+use krb_items::{Lies, Listed, believed, list_octets};
 use krb_record::{Label, TextBuffer};
 use krb_run::{CountedReader, FileFormat, FileText, RunEnd, RunFault, run_file};
 use krb_tool::list_input;
@@ -33,44 +33,45 @@ struct SpelledItems<'a> {
 }
 
 impl SpelledItems<'_> {
-    /// Returns a text and the records of octets after it.
+    /// Returns a text and the records of octets after it: of the items before a message of NTLM, if one
+    /// is there, or else of all, up to the one at fault.
     fn reach(
         self,
         alloc: Global,
         found: Listable,
         text: TextBuffer,
         octets: &[u8],
-        fault: Option<Refusal>,
     ) -> Result<Listed, AllocError>
         requires short { length octets.now < 2 ^ 32 }
-        requires shallow { IsShallow found.lies }
-        ensures { IfOk result (λ listed. listed ≡ reached self.entry.label.now text found.layers.now found.lies octets.now fault) }
+        ensures { IfOk result (λ listed. listed ≡ reached_of self.entry.label.now text (listable_of found) octets.now) }
     {
-        let layers = found.layers;
-        list_octets(alloc, self.label, text, layers, found.lies, octets, fault)
+        let Some(place) = found.ntlm else {
+            return list_octets(alloc, self.label, text, found.lies, octets, found.fault);
+        };
+        let front = &octets[..octets.len().min(place as usize)];
+        list_octets(alloc, self.label, text, found.lies, front, None)
     }
 
     /// Returns a text and, if the first length is believed, the records of the octets of that length.
     fn believe(
         self,
         alloc: Global,
-        found: Listable,
+        lies: Lies,
         text: TextBuffer,
         octets: &[u8],
         refusal: Refusal,
     ) -> Result<TextBuffer, AllocError>
         requires short { length octets.now < 2 ^ 31 }
-        requires shallow { IsShallow found.lies }
-        ensures { IfOk result (λ made. made ≡ believed_text self.entry.label.now self.entry.profile (listable_of found) octets.now text (believed found.lies octets.now refusal)) }
+        ensures { IfOk result (λ made. made ≡ believed_text self.entry.label.now self.entry.profile lies octets.now text (believed lies octets.now refusal)) }
     {
-        let Some(size) = believed(found.lies, octets, refusal) else {
+        let Some(size) = believed(lies, octets, refusal) else {
             return Ok(text);
         };
         let mut text = text;
         put_believed(&mut text, self.label, size, octets.len())?;
         let front = &octets[..octets.len().min(size as usize)];
-        let fault = front_fault(self.profile, found.lies, size, front);
-        Ok(self.reach(alloc, found, text, front, fault)?.text)
+        let found = front_listable(self.profile, lies, size, front);
+        Ok(self.reach(alloc, found, text, front)?.text)
     }
 
     /// Returns what is listed of octets that an input spells, of which more than a message may have are
@@ -106,16 +107,18 @@ impl SpelledItems<'_> {
         input: &[u8],
     ) -> Result<FileText, RunFault>
         requires short { length octets.now < 2 ^ 31 }
-        requires shallow { IsShallow found.lies }
         ensures listed { IfOk result (λ made. shown made ≡ found_items self.entry.label.now self.entry.profile octets.now (Some (listable_of found)) (message_listing self.entry.label.now self.entry.profile input.now)) }
         ensures fault { IfErr result (λ e. e ≡ RunFault.Memory) }
     {
         let text = TextBuffer::new(alloc);
-        let listed = self.reach(alloc, found, text, octets, found.fault)?;
+        let listed = self.reach(alloc, found, text, octets)?;
+        if found.ntlm.is_some() {
+            return self.list_fault(alloc, listed.text, input);
+        }
         match found.fault {
             None => self.list_whole(listed),
             Some(refusal) => {
-                let text = self.believe(alloc, found, listed.text, octets, refusal)?;
+                let text = self.believe(alloc, found.lies, listed.text, octets, refusal)?;
                 self.list_fault(alloc, text, input)
             }
         }

@@ -3,3 +3,4 @@ mod Commands
 mod Hinted
 mod Written
 mod Chosen
+mod Sorted

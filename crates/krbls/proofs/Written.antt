@@ -9,6 +9,7 @@ use Rattle.krb_convert.specs.Decoding.{FailsToDecodeWhole}
 use Rattle.krb_convert.specs.Encoding.{FailsToEncode}
 use Rattle.krb_convert.specs.declared.decode_run.DecodeEnd.{DecodeEnd}
 use Rattle.krb_convert.specs.declared.encode_run.EncodeEnd.{EncodeEnd}
+use Rattle.krb_decode.specs.Streams.{DecodesStream, FailsToDecodeStream}
 use Rattle.krb_record.specs.Labels.{Label}
 use Rattle.krb_run.proofs.Records.{some-none, some-prefix, some-same}
 use Rattle.krb_run.specs.Conversions.{FailsToConvert}
@@ -65,6 +66,14 @@ module _ (had left before after : Option (List ℕ)) where
 
   pub of_file : (Listed : List ℕ → FileListing → Type 0) (result : Result RunEnd RunFault) → IfOk result (ListsFile Listed had left before after) → IfErr result (FailsFile Listed had left before after) → WritesSome before after
   of_file Listed result = by-outcome result (λ end w. ((w.listing).text, w.added)) (file_fails Listed)
+
+  on_fails : (profile : Profile) (limit : ℕ) (failed : RunFault) → FailsToDecodeStream profile limit had left before after failed → WritesSome before after
+  on_fails profile limit (fault.Write e) w = some-prefix before after w.text w.added
+  on_fails profile limit (fault.Read e) w = (w.text, w.added)
+  on_fails profile limit fault.Memory w = some-prefix before after w.text w.added
+
+  pub of_decoded_on : (profile : Profile) (limit : ℕ) (result : Result RunEnd RunFault) → IfOk result (DecodesStream profile limit had left before after) → IfErr result (FailsToDecodeStream profile limit had left before after) → WritesSome before after
+  of_decoded_on profile limit result = by-outcome result (λ end w. (w.written, w.added)) (on_fails profile limit)
 
   -- ---- what is turned into another form
   decoded : (how : Framing) (profile : Profile) (limit : ℕ) (end : DecodeEnd) → DecodesBy how profile limit had left before after end → WritesSome before after

@@ -1,13 +1,16 @@
 -- What the program does by its words: to the standard output, to the standard error, and its status.
-use Rattle.std.specs.Prelude.{ℕ, ◌≡◌, ◌++◌, ◌⊎◌, ◌&&◌, max, nat_lt, Bool, true, false, if◌then◌else◌, List, length, map, Option, Some, None, Result, Ok, Err, IfErr, IfOk, OnErr, codes, string_bytes}
+use Rattle.std.specs.Prelude.{ℕ, ◌≡◌, ◌++◌, ◌⊎◌, ◌&&◌, max, nat_lt, All, Bool, true, false, if◌then◌else◌, List, length, map, Option, Some, None, Result, Ok, Err, IfErr, IfOk, OnErr, codes, string_bytes}
 use Rattle.std.specs.Io.KnownBytes.{Appends, Keeps}
 use Rattle.std.specs.List.{list_any}
 use Rattle.std.specs.Option.{option_map}
+use Rattle.krb_capture_run.specs.Decoded.{decoded_capture}
 use Rattle.krb_choice.specs.Choices.{Choice}
 use Rattle.krb_choice.specs.Wanted.{choice_form}
 use Rattle.krb_choosing.specs.Listings.{chosen_listing}
 use Rattle.krb_decode.specs.Hints.{hint_text as decoded_hint_text, keytab_text}
 use Rattle.krb_decode.specs.Caches.{decoded_cache}
+use Rattle.krb_decode.specs.Sorted.{is_any, message_lines, sorted_end, told_lines}
+use Rattle.krb_decode.specs.Streams.{DecodesStream, FailsToDecodeStream}
 use Rattle.krb_decode.specs.Runs.{DecodesCache, DecodesInput, FailsToDecodeInput}
 use Rattle.krb_decode.specs.declared.input.InputEnd.{InputEnd}
 use Rattle.krb_der.specs.declared.profile.Profile.{Profile}
@@ -22,6 +25,7 @@ use Rattle.krb_record.specs.Text.{line_feed}
 use Rattle.krb_record.specs.declared.form.Form.{Form}
 use Rattle.krb_record.specs.declared.form.Form.TheVariants as forms
 use Rattle.krb_run.specs.Faults.{IsWrite}
+use Rattle.krb_run.specs.Records.{ListsRecords}
 use Rattle.krb_run.specs.Begun.{IsEnough}
 use Rattle.krb_run.specs.Sources.{FailsLine, ListsAfterLine, ListsEach, ListsOne, Named, Outcome, Reports, Run, RunOver, names_of, unnamed}
 use Rattle.krb_run.specs.declared.naming.Naming.{Naming as Labels}
@@ -52,7 +56,7 @@ use Rattle.krb_words.specs.declared.words.WordsFault.TheVariants as words_fault
 use Rattle.krb_host.specs.Around.{Around}
 use Rattle.krb_host.specs.Expanded.{Expands}
 use Rattle.krbls.specs.declared.decoding.Decoding.{Decoding}
-use Rattle.krbls.specs.Commands.{DoesWith, TellsSaid, chosen, decoding_of, hint_by}
+use Rattle.krbls.specs.Commands.{DoesWith, ListsTo, TellsSaid, chosen, decoding_of, hint_by}
 
 -- the name of a source, as it was given
 abbrev pub name_of : Source → List ℕ
@@ -127,18 +131,50 @@ pub record TellsKeytab (around : Around) (s : Source) (written_before written_af
   pub ends : (outcome ≡ Ok run.Refused) ⊎ (outcome ≡ Err fault.Memory)
   pub unwritten : written_after ≡ written_before
 
--- A stream is decoded up to what is refused, or goes on: what that becomes is not said here, but that a hint is told if its first frame is refused.
-abbrev pub DecodesFrames : AfterRefusal → Around → Option Choice → Label → Option ℕ → Command → Source → (first : List ℕ) → (had written_before written_after : Option (List ℕ)) → Outcome → Type 0
-DecodesFrames after.Ends around choice label now command s first had written_before written_after outcome = ListsBy around choice label now command s (chosen command first) first had written_before written_after outcome
-DecodesFrames after.GoesOn around choice label now command s first had written_before written_after outcome = IfOk outcome (Hints around s command (hint_for kind.Stream first))
+-- ---- one text is decoded of a capture, or of a stream that goes on: its lines are of messages, or say what is left out
+-- of a capture, or of one packet of it
+abbrev pub DecodesCapture : Decoding → (had : Option (List ℕ)) → Run
+DecodesCapture decoding had written_before written_after outcome =
+    (file : List ℕ) → had ≡ Some file → ListsRecords (decoded_capture decoding.profile decoding.limit decoding.packets.port decoding.packets.number file) (λ left. Unit {0}) written_before written_after outcome
 
--- It is one message, a cache, a keytab or a capture if its first octets say so, and else a stream. What a capture becomes is not said here.
+-- of a stream
+abbrev pub DecodesOn : Decoding → (had left : Option (List ℕ)) → Run
+DecodesOn decoding had left written_before written_after outcome =
+    IfOk outcome (DecodesStream decoding.profile decoding.limit had left written_before written_after) × IfErr outcome (FailsToDecodeStream decoding.profile decoding.limit had left written_before written_after)
+
+abbrev pub sorted_outcome : Outcome → (has_told : Bool) → Outcome
+sorted_outcome (Ok end) has_told = Ok (sorted_end end has_told)
+sorted_outcome (Err fault) has_told = Err fault
+
+-- The text was sorted as it came: its lines of messages were written, and each other line that has ended was told. It ends clean only if none was.
+pub record DecodesSorted (IsTold : List ℕ → Type 0) (Decodes : Run) (written_before written_after : Option (List ℕ)) (outcome : Outcome) : Type 0 where
+  pub text : List ℕ
+  pub result : Outcome
+  pub decoded : ListsTo Decodes text result
+  pub written : Appends written_before written_after (message_lines text)
+  pub told : ∥ All IsTold (told_lines text) ∥₁
+  pub ends : outcome ≡ sorted_outcome result (is_any (told_lines text))
+
+-- Of a stream, a hint is told, too, if its first frame is refused.
+pub record DecodesStreamOn (around : Around) (command : Command) (decoding : Decoding) (s : Source) (first : List ℕ) (had written_before written_after : Option (List ℕ)) (outcome : Outcome) : Type 0 where
+  pub left : Option (List ℕ)
+  pub result : Outcome
+  pub decoded : DecodesSorted (around.IsEndTold s) (DecodesOn decoding had left) written_before written_after result
+  pub ends : (outcome ≡ result) ⊎ (outcome ≡ Err fault.Memory)
+  pub hinted : IfOk outcome (Hints around s command (hint_for kind.Stream first))
+
+-- A stream is decoded up to what is refused, or goes on.
+abbrev pub DecodesFrames : AfterRefusal → Decoding → Around → Option Choice → Label → Option ℕ → Command → Source → (first : List ℕ) → (had written_before written_after : Option (List ℕ)) → Outcome → Type 0
+DecodesFrames after.Ends decoding around choice label now command s first had written_before written_after outcome = ListsBy around choice label now command s (chosen command first) first had written_before written_after outcome
+DecodesFrames after.GoesOn decoding around choice label now command s first had written_before written_after outcome = DecodesStreamOn around command decoding s first had written_before written_after outcome
+
+-- It is one message, a cache, a keytab or a capture if its first octets say so, and else a stream.
 abbrev pub DecodesBegun : SourceKind → Around → Option Choice → Label → Option ℕ → Command → Decoding → Source → (first : List ℕ) → (had written_before written_after : Option (List ℕ)) → Outcome → Type 0
 DecodesBegun kind.Message around choice label now command decoding s first had written_before written_after outcome = DecodesSpelled around command decoding.profile s first had written_before written_after outcome
 DecodesBegun kind.Ccache around choice label now command decoding s first had written_before written_after outcome = DecodesCredentials around s had written_before written_after outcome
 DecodesBegun kind.Keytab around choice label now command decoding s first had written_before written_after outcome = TellsKeytab around s written_before written_after outcome
-DecodesBegun kind.Capture around choice label now command decoding s first had written_before written_after outcome = Unit {0}
-DecodesBegun kind.Stream around choice label now command decoding s first had written_before written_after outcome = DecodesFrames decoding.refused around choice label now command s first had written_before written_after outcome
+DecodesBegun kind.Capture around choice label now command decoding s first had written_before written_after outcome = DecodesSorted (around.IsEndTold s) (DecodesCapture decoding had) written_before written_after outcome
+DecodesBegun kind.Stream around choice label now command decoding s first had written_before written_after outcome = DecodesFrames decoding.refused decoding around choice label now command s first had written_before written_after outcome
 
 abbrev pub BegunBy : Option Decoding → Around → Option Choice → Label → Option ℕ → Command → Source → (first : List ℕ) → (had written_before written_after : Option (List ℕ)) → Outcome → Type 0
 BegunBy (Some decoding) around choice label now command s first had written_before written_after outcome = DecodesBegun (command_for first) around choice label now command decoding s first had written_before written_after outcome

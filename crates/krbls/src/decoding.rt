@@ -1,15 +1,14 @@
 //! The runs over sources that are decoded as their first octets say.
 
 ghost use Rattle.std.specs.Option.{option_copied};
-ghost use Rattle.std.specs.Prelude.{◌≡◌, ◌⊎◌, IfOk};
+ghost use Rattle.std.specs.Prelude.{◌≡◌, ◌⊎◌, ◌++◌, ℕ, List, IfOk};
 ghost use Rattle.krb_decode.specs.Hints.{keytab_text};
-ghost use Rattle.krb_input.specs.Hints.{hint_for};
+ghost use Rattle.krb_decode.specs.Sorted.{sorted_end};
 ghost use Rattle.krb_input.specs.Sources.{command_for};
-ghost use Rattle.krb_input.specs.declared.source_kind.SourceKind.TheVariants as kind;
 ghost use Rattle.krb_run.specs.Begun.{begun_remaining, first_of};
-ghost use Rattle.krbls.specs.Commands.{decoding_of};
+ghost use Rattle.krbls.specs.Commands.{ListsTo, decoding_of};
 ghost use Rattle.krb_words.specs.Shell.{shell_word};
-ghost use Rattle.krbls.specs.Program.{DecodesBegun, DecodesCredentials, DecodesFrames, DecodesSpelled, DoesBegun, Hints, name_of};
+ghost use Rattle.krbls.specs.Program.{DecodesBegun, DecodesCapture, DecodesCredentials, DecodesFrames, DecodesOn, DecodesSorted, DecodesSpelled, DecodesStreamOn, DoesBegun, name_of, sorted_outcome};
 
 use crate::lister::{Lister, name_word};
 use krb_capture_run::run_decode_capture;
@@ -22,6 +21,7 @@ use krb_record::{Label, TextBuffer};
 use krb_run::{Begun, RunEnd, RunFault};
 use krb_tool::{Limit, Profile};
 use krb_words::{AfterRefusal, Command, Framing, Packets, Source};
+use std::alloc::Global;
 use std::io::{Read, Write};
 
 /// How sources are decoded as their first octets say.
@@ -56,20 +56,65 @@ struct Telling<'a, H> {
 }
 
 impl<H: Host> Tell for Telling<'_, H> {
+    ghost IsTold = { λ t. (H.around t.host.now).IsEndTold t.source.now };
+
     fn tell(&self, line: &[u8]) {
         self.host.tell_end(self.source, line);
     }
 }
 
 /// Returns how a run ends that was refused at once, or of which something was told, or nothing.
-fn told_end(end: RunEnd, has_told: bool) -> RunEnd {
-    if end == RunEnd::RefusedAtOnce {
-        RunEnd::RefusedAtOnce
-    } else if has_told {
-        RunEnd::Refused
-    } else {
-        RunEnd::Clean
+fn sorted_end(end: RunEnd, has_told: bool) -> RunEnd
+    ensures { result ≡ sorted_end end has_told }
+{
+    match end {
+        RunEnd::RefusedAtOnce => RunEnd::RefusedAtOnce,
+        RunEnd::Clean | RunEnd::Refused if has_told => RunEnd::Refused,
+        RunEnd::Clean | RunEnd::Refused => RunEnd::Clean,
     }
+}
+
+/// Returns how a run ends over a text that was sorted, or its fault.
+fn sorted_outcome(outcome: Result<RunEnd, RunFault>, has_told: bool) -> Result<RunEnd, RunFault>
+    ensures { result ≡ sorted_outcome outcome has_told }
+{
+    match outcome {
+        Ok(end) => Ok(sorted_end(end, has_told)),
+        Err(fault) => Err(fault),
+    }
+}
+
+/// Decodes a capture to what sorts its lines.
+fn capture_into<R: Read, W: Write, T: Tell>(
+    alloc: Global,
+    decoding: Decoding,
+    reader: &mut R,
+    sorting: &mut Sorting<'_, W, T>,
+) -> Result<RunEnd, RunFault>
+    ensures given { (text : List ℕ) × (sorting.new.given.octets ≡ sorting.old.given.octets ++ text) × ListsTo (DecodesCapture decoding (R.remaining reader.old)) text result }
+    ensures same_writer { sorting.new.writer.ghost_name ≡ sorting.old.writer.ghost_name }
+    ensures same_before { W.contents sorting.new.before.value ≡ W.contents sorting.old.before.value }
+    ensures same_teller { sorting.new.teller.now ≡ sorting.old.teller.now }
+{
+    let Packets { port, number } = decoding.packets;
+    let Decoding { limit, profile, .. } = decoding;
+    run_decode_capture(alloc, profile, reader, sorting, limit, port, number)
+}
+
+/// Decodes a stream that goes on after what is refused, to what sorts its lines.
+fn stream_into<R: Read, W: Write, T: Tell>(
+    alloc: Global,
+    decoding: Decoding,
+    reader: &mut R,
+    sorting: &mut Sorting<'_, W, T>,
+) -> Result<RunEnd, RunFault>
+    ensures given { (text : List ℕ) × (sorting.new.given.octets ≡ sorting.old.given.octets ++ text) × ListsTo (DecodesOn decoding (R.remaining reader.old) (R.remaining reader.new)) text result }
+    ensures same_writer { sorting.new.writer.ghost_name ≡ sorting.old.writer.ghost_name }
+    ensures same_before { W.contents sorting.new.before.value ≡ W.contents sorting.old.before.value }
+    ensures same_teller { sorting.new.teller.now ≡ sorting.old.teller.now }
+{
+    let Decoding { limit, profile, .. } = decoding;
+    run_decode_stream(alloc, profile, reader, sorting, limit)
 }
 
 impl<H: Host> Lister<'_, H> {
@@ -119,7 +164,7 @@ impl<H: Host> Lister<'_, H> {
         reader: &mut Begun<R>,
         writer: &mut W,
     ) -> Result<RunEnd, RunFault>
-        ensures { DecodesFrames decoding.refused (H.around self.now.host.now) (option_copied self.now.choice) label.now self.now.time self.now.command.now source.now (first_of reader.old) (begun_remaining R.remaining reader.old) (W.contents writer.old) (W.contents writer.new) result }
+        ensures { DecodesFrames decoding.refused decoding (H.around self.now.host.now) (option_copied self.now.choice) label.now self.now.time self.now.command.now source.now (first_of reader.old) (begun_remaining R.remaining reader.old) (W.contents writer.old) (W.contents writer.new) result }
     {
         match decoding.refused {
             AfterRefusal::Ends => self.list_begun(source, label, reader, writer),
@@ -132,25 +177,41 @@ impl<H: Host> Lister<'_, H> {
         &self,
         source: &Source,
         decoding: Decoding,
-        reader: &mut Begun<R>,
+        reader: &mut R,
         writer: &mut W,
-    ) -> Result<RunEnd, RunFault> {
+    ) -> Result<RunEnd, RunFault>
+        ensures { DecodesSorted ((H.around self.now.host.now).IsEndTold source.now) (DecodesCapture decoding (R.remaining reader.old)) (W.contents writer.old) (W.contents writer.new) result }
+    {
         let telling = Telling {
             host: self.host,
             source,
         };
         let mut sorting = Sorting::new(self.alloc, writer, &telling);
-        let Packets { port, number } = decoding.packets;
-        let end = run_decode_capture(
-            self.alloc,
-            decoding.profile,
-            reader,
-            &mut sorting,
-            decoding.limit,
-            port,
-            number,
-        )?;
-        Ok(told_end(end, sorting.has_told()))
+        let outcome = capture_into(self.alloc, decoding, reader, &mut sorting);
+        let outcome = sorted_outcome(outcome, sorting.has_told());
+        let _ = &*sorting.finish();
+        outcome
+    }
+
+    /// Decodes a stream that goes on after what is refused, and tells what is left out of it.
+    fn decode_on<R: Read, W: Write>(
+        &self,
+        source: &Source,
+        decoding: Decoding,
+        reader: &mut R,
+        writer: &mut W,
+    ) -> Result<RunEnd, RunFault>
+        ensures { DecodesSorted ((H.around self.now.host.now).IsEndTold source.now) (DecodesOn decoding (R.remaining reader.old) (R.remaining reader.new)) (W.contents writer.old) (W.contents writer.new) result }
+    {
+        let telling = Telling {
+            host: self.host,
+            source,
+        };
+        let mut sorting = Sorting::new(self.alloc, writer, &telling);
+        let outcome = stream_into(self.alloc, decoding, reader, &mut sorting);
+        let outcome = sorted_outcome(outcome, sorting.has_told());
+        let _ = &*sorting.finish();
+        outcome
     }
 
     /// Decodes a stream that goes on after what is refused, tells what is left out of it, and a hint if
@@ -162,17 +223,10 @@ impl<H: Host> Lister<'_, H> {
         reader: &mut Begun<R>,
         writer: &mut W,
     ) -> Result<RunEnd, RunFault>
-        ensures { IfOk result (Hints (H.around self.now.host.now) source.now self.now.command.now (hint_for kind.Stream (first_of reader.old))) }
+        ensures { DecodesStreamOn (H.around self.now.host.now) self.now.command.now decoding source.now (first_of reader.old) (begun_remaining R.remaining reader.old) (W.contents writer.old) (W.contents writer.new) result }
     {
         let hint = hint_of(SourceKind::Stream, reader.first());
-        let telling = Telling {
-            host: self.host,
-            source,
-        };
-        let mut sorting = Sorting::new(self.alloc, writer, &telling);
-        let Decoding { limit, profile, .. } = decoding;
-        let end = run_decode_stream(self.alloc, profile, reader, &mut sorting, limit)?;
-        let end = told_end(end, sorting.has_told());
+        let end = self.decode_on(source, decoding, reader, writer)?;
         if end == RunEnd::RefusedAtOnce {
             self.tell_hint(source, hint)?;
         }

@@ -116,6 +116,8 @@ def ticket_or_said(octets):
     try:
         value = whole(octets, {"Ticket": TICKET})[1]
     except Refused as refusal:
+        # What it has to be is known before its tag.
+        refusal.path = refusal.path or "Ticket"
         return b"", named_line(without_extent(refused(refusal)))
     if value["enc-part"]["etype"] == 0:
         return b"", f"Ticket.enc-part: {NOT_ENCRYPTED}"

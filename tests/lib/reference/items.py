@@ -1,21 +1,35 @@
 """Where each item of a message is in its octets: the records of `krbls items`.
 
-A walk judges octets as `judging` does, and keeps each item once it is right: what holds others once its last length octet is, all
-else once its last octet is. An item and the explicit tags that it stands in are one. An OCTET STRING that is all of what it
-should hold is opened: the items of that follow it. Of a token only the message in it has items.
+A walk judges octets as `judging` does, and keeps each item once it is right: what holds others and what is gone into once its
+last length octet is, all else once its last octet is. An item and the explicit tags that it stands in are one.
 """
 
 from dataclasses import dataclass, field
 
-from .grammar import MESSAGES, METHOD_DATA, STRICT_MESSAGES, Bits, Boolean, Integer, ListOf, Sequence, Tagged, Time
-from .inputs import spelled
-from .inside import ARMOR_AP_REQUEST, OF_OTHERS, OF_REQUESTS, SALT, value_of
+from .grammar import (
+    MESSAGES,
+    METHOD_DATA,
+    OBJECT_IDENTIFIER,
+    STRICT_MESSAGES,
+    Bits,
+    Boolean,
+    Choice,
+    Integer,
+    ListOf,
+    ObjectIdentifier,
+    Sequence,
+    String,
+    Tagged,
+    Time,
+)
+from .inputs import NTLM, spelled
+from .inside import OF_OTHERS, OF_REQUESTS, SALT, value_of
 from .judging import Ended, Judge, Refused
 from .records import Record, refused_input
 from .registries import ADDRESS_TYPES, AP_OPTIONS, CHECKSUM_TYPES, ENCRYPTION_TYPES, KDC_OPTIONS, NAME_TYPES, PA_DATA_TYPES, PAC_OPTIONS
 from .messages import MOST_TEXT, TICKETS, octets_record
 from .spellings import Misspelled
-from .tokens import Ntlm, Token
+from .tokens import BARE_MESSAGES, KERBEROS, NEG_TOKEN_INIT, NEG_TOKEN_RESP, SPNEGO, TOKEN_FIELDS, TOKEN_IDS, Ntlm
 from .values import (
     ABSENT,
     error_code,
@@ -41,10 +55,10 @@ NUMBERS = {
     "addr-type": ADDRESS_TYPES,
     "cksumtype": CHECKSUM_TYPES,
 }
-FLAGS = {"kdc-options": KDC_OPTIONS, "ap-options": AP_OPTIONS, "flags": PAC_OPTIONS}
+FLAGS = {"kdc-options": KDC_OPTIONS, "ap-options": AP_OPTIONS, "flags": PAC_OPTIONS, "reqFlags": {}}
 SHOWN = ("address", "s2kparams")
 
-# What a padata-value of a type is called, and the codes of errors whose data are METHOD-DATA.
+# What a padata-value of a type is called, and of which codes of errors the data are METHOD-DATA.
 HELD = {
     1: "PA-TGS-REQ",
     2: "PA-ENC-TIMESTAMP",
@@ -57,8 +71,10 @@ HELD = {
     167: "PA-PAC-OPTIONS",
 }
 WITH_METHODS = (24, 25)
+ARMOR_AP_REQUEST = 1
 
-TYPES = {0x01: "BOOLEAN", 0x02: "INTEGER", 0x03: "BIT-STRING", 0x04: "OCTET-STRING", 0x18: "GeneralizedTime", 0x1B: "GeneralString"}
+TYPES = {0x01: "BOOLEAN", 0x02: "INTEGER", 0x03: "BIT-STRING", 0x04: "OCTET-STRING", 0x06: "OBJECT-IDENTIFIER"}
+TYPES |= {0x0A: "ENUMERATED", 0x18: "GeneralizedTime", 0x1B: "GeneralString"}
 
 GREATEST = 2147483647
 MOST_BEFORE = 16
@@ -79,6 +95,20 @@ def type_of(item):
         case Sequence():
             return "SEQUENCE"
     return TYPES[item.tag]
+
+
+def identifier(octets):
+    """The numbers of an OBJECT IDENTIFIER (X.690, 8.19), or its octets if one that is written has more than 64 bits."""
+    written, value = [], 0
+    for octet in octets:
+        value = value * 128 + octet % 128
+        if octet < 0x80:
+            written.append(value)
+            value = 0
+    if max(written) >= 2**64:
+        return octets.hex()
+    first = min(written[0] // 40, 2)
+    return ".".join(map(str, (first, written[0] - 40 * first, *written[1:])))
 
 
 @dataclass
@@ -113,6 +143,7 @@ class Walk(Judge):
         self.is_request = False
         # Whether the next item is in an explicit tag.
         self.is_joined = False
+        self.opens_tokens = True
         self.begin()
 
     def begin(self):
@@ -210,11 +241,15 @@ class Walk(Judge):
 
     def leaf(self, item, size):
         start, name = self.place, self.last_name()
-        is_salt = name == "salt" or (name == "padata-value" and self.number == SALT)
-        counted = item.tag == 0x04 and name not in SHOWN and not is_salt
+        counted = item.tag == 0x04 and name not in (*SHOWN, "salt") and not (name == "padata-value" and self.number == SALT)
+        if counted and name in TOKEN_FIELDS.values() and self.opens_tokens and self.is_gone_into(start, size):
+            self.list(number(size))
+            return self.token(start, size)
         if counted:
             self.hidden.append((start, start + size))
         value = super().contents(item, size)
+        if name == "oid" and value not in self.mechanisms:
+            self.refuse("Range")
         self.list(self.value(item, name, value, counted))
         if isinstance(item, Integer):
             self.number = value
@@ -234,6 +269,8 @@ class Walk(Judge):
                 return flags(8 * len(value[1]) - value[0], value[1], FLAGS[name])
             case Time():
                 return string(value)
+            case ObjectIdentifier():
+                return word(identifier(value))
         if counted:
             return number(len(value))
         return hexadecimal(value) if name in SHOWN else quoted(value)
@@ -267,6 +304,10 @@ class Walk(Judge):
         first = self.octets[0] if self.octets else None
         if first == 0x00:
             return self.frame(messages)
+        if first == 0x60:
+            return self.gss(messages)
+        if first in TOKEN_FIELDS:
+            return self.spnego((NEG_TOKEN_INIT, NEG_TOKEN_RESP), messages)
         return self.message({"Ticket": ticket} if first == 0x61 else messages)
 
     def message(self, kinds):
@@ -298,6 +339,112 @@ class Walk(Judge):
         self.begin()
         self.message(messages)
 
+    def gss(self, messages, is_in_spnego=False):
+        """A token of GSS-API, in the room that is left."""
+        self.via = [*self.via, "GSS"]
+        self.messages = messages
+        self.mechanisms = KERBEROS if is_in_spnego else {**KERBEROS, SPNEGO: None}
+        self.path = ""
+        self.begin()
+        begun = self.begun
+        begun.head, room = self.place, self.room()
+        self.next()
+        self.path = "GSS"
+        begun.types.append("[APPLICATION-0]")
+        self.length(room, True)
+        self.list()
+        self.depth += 1
+        self.begin()
+        if self.room() == 0:
+            self.missing("GSS.oid")
+        _, oid = self.item([(".oid", OBJECT_IDENTIFIER)], self.room(), False)
+        if oid == SPNEGO and not is_in_spnego:
+            return self.spnego_in_gss(messages)
+        return self.kerberos(messages)
+
+    def kerberos(self, messages):
+        begun = self.begun
+        first = self.token_id(TOKEN_IDS)
+        self.token_id((0x00,))
+        begun.next, begun.size = begun.at, 2
+        begun.types = ["octets"]
+        self.path = "GSS.token-id"
+        self.list(hexadecimal(bytes([first, 0])))
+        self.path = "GSS"
+        self.begin()
+        if self.room() == 0:
+            self.missing("GSS.message")
+        kind = TOKEN_IDS[first]
+        self.message({kind: messages[kind]})
+
+    def token_id(self, allowed):
+        if self.room() == 0:
+            self.missing("GSS.token-id")
+        if self.place == len(self.octets) and self.begun.at == self.place:
+            self.end()
+        self.path = "GSS.token-id"
+        octet = self.next()
+        if octet not in allowed:
+            self.refuse("Range")
+        return octet
+
+    def missing(self, path):
+        self.path = path
+        self.refuse("Missing")
+
+    def spnego_in_gss(self, messages):
+        if self.room() == 0:
+            self.missing("SPNEGO")
+        if self.place < len(self.octets):
+            self.path = ""
+            self.via = [*self.via, "SPNEGO"]
+            return self.spnego((NEG_TOKEN_INIT,), messages, is_in_gss=True)
+        self.end()
+
+    def spnego(self, tokens, messages, is_in_gss=False):
+        """One of some tokens of SPNEGO, in the room that is left."""
+        if not is_in_gss:
+            self.via = ["SPNEGO"]
+        self.messages = messages
+        end = self.end_place
+        path = f"SPNEGO.{TOKEN_FIELDS.get(self.octets[self.place], '')}"
+        _, value = self.item([("SPNEGO", token) for token in tokens], self.room(), True)
+        self.depth += 1
+        self.begin()
+        if path.split(".")[1] not in value and self.place == end:
+            self.missing(path)
+
+    def is_gone_into(self, start, size):
+        """Whether a token is looked into: where octets were cut, if it is no message of NTLM and cannot be one yet."""
+        here = self.octets[start : start + size]
+        may_be_ntlm = here.startswith(NTLM) or (len(here) < size and NTLM.startswith(here))
+        return not (len(self.octets) < self.n and may_be_ntlm)
+
+    def token(self, start, size):
+        """What is in the token of a token of SPNEGO."""
+        outer = self.via, self.path, self.depth, self.end_place, self.begun
+        path = self.path
+        self.depth = self.begun.depth + 1
+        self.end_place = start + size
+        self.begin()
+        if size == 0:
+            self.refuse("Missing")
+        if self.place == len(self.octets):
+            self.end()
+        first = self.octets[self.place]
+        if self.octets[start : start + size].startswith(NTLM):
+            raise Ntlm(start)
+        if first == 0x60:
+            self.gss(self.messages, is_in_spnego=True)
+        elif first in BARE_MESSAGES:
+            self.message(self.messages)
+        else:
+            self.begun.head = self.place
+            self.next()
+            self.refuse("Tag")
+        self.via, self.path, self.depth, self.end_place, self.begun = outer
+        return self.octets[start : start + size]
+
     # ---- what is at fault
 
     def fault(self, place, why):
@@ -322,38 +469,27 @@ class Walk(Judge):
         return Record("fault", shown, self.before(begun, heads))
 
 
-def walked(octets, n, messages):
+def walked(octets, n, messages, opens_tokens=True):
     """A walk over n octets, of which these are there, and whether and where it was refused."""
     walk = Walk(octets, n)
-    return walk, refused_of(walk, lambda: walk.all(messages, TICKETS[messages is STRICT_MESSAGES]))
-
-
-def refused_of(walk, goes):
-    """Whether and where a walk is refused."""
+    walk.opens_tokens = opens_tokens
     try:
-        goes()
+        walk.all(messages, TICKETS[messages is STRICT_MESSAGES])
     except Refused as refusal:
-        return refusal
+        return walk, refusal
     except Ended:
-        return Refused(len(walk.octets), "Truncated")
-    return None
+        return walk, Refused(len(octets), "Truncated")
+    except Ntlm:
+        return walk, None
+    return walk, None
 
 
-def walked_in_token(octets, messages):
-    """A walk over the message in the layers of a token, or none if a layer is refused, the first octet of the message too."""
-    token = Token(octets)
-    try:
-        inside = token.open()
-    except (Ntlm, Refused):
-        return None
-    kinds = messages if inside.kind == "message" else {inside.kind: messages[inside.kind]}
-    if octets[inside.place] not in [kind.tag for kind in kinds.values()]:
-        return None
-    depth = sum(2 if layer == "SPNEGO" else 1 for layer in token.via)
-    walk = Walk(octets, len(octets), inside.place, depth, token.via)
-    walk.end_place = inside.place + len(inside.octets)
-    refused_of(walk, lambda: walk.message(messages))
-    return walk
+def walked_into(octets, n, messages):
+    """The same, into the token of a token of SPNEGO, unless that is refused around it."""
+    walk, refusal = walked(octets, n, messages, False)
+    if refusal is not None and refusal.why != "Truncated" and walk.via[-1:] == ["SPNEGO"] and not walk.path.endswith("Token"):
+        return walk, refusal
+    return walked(octets, n, messages)
 
 
 def first_length(octets):
@@ -383,18 +519,19 @@ def believed(octets, place, why):
 def octets_items(octets, form, messages):
     """The records of the items of octets, and the status of the program."""
     last = octets_record(octets, form, 0, messages)
-    is_token = octets[:1] in (b"\x60", b"\xa0", b"\xa1")
-    walk = walked_in_token(octets, messages) if is_token else walked(octets, len(octets), messages)[0]
     if last.kind != "refused":
+        walk, _ = walked(octets, len(octets), messages)
         return [*walk.records, Record("end", {"items": number(len(walk.records))})], 0
-    if walk is None or "input" in last.fields:
-        return [last], 1
+    if "input" in last.fields:
+        walk, _ = walked(octets, len(octets), messages)
+        return [*walk.records, last], 1
     place, why = last.fields["place"].member, last.fields["why"].second_member[1]
+    walk, _ = walked_into(octets, len(octets), messages)
     found = [*walk.records, walk.fault(place, why)]
-    size = None if is_token else believed(octets, place, why)
+    size = believed(octets, place, why)
     if size is not None:
         found.append(Record("believed", {"length": number(size), "octets": number(len(octets))}))
-        walk, refusal = walked(octets[:size], size, messages)
+        walk, refusal = walked_into(octets[:size], size, messages)
         found += walk.records
         if refusal is not None:
             found.append(walk.fault(refusal.place, refusal.why))

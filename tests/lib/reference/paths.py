@@ -7,7 +7,8 @@ message that it tags, and so has what is in it. What is missing in a SEQUENCE is
 field that is not there, and what is missing in a tag has the path of the tag. Octets that end too early end in
 the innermost item that is open, which is a container if they end between two of its items.
 
-No field is at fault if no message is named: before the tag octet of one, and in the length of a frame.
+No field is at fault if no message is named: before the tag octet of one, and in the length of a frame. What has to be a Ticket
+is named so from its tag octet on, whatever that is.
 `judging` keeps the path, and `files` and `captures` have the names of the fields of files.
 """
 

@@ -242,7 +242,7 @@ def _exchange_row(exchange: Exchange, greatest: int, again: bool) -> str:
     """The cells of an exchange that was answered, with its bar; and how long it took since the request was first sent."""
     request, reply = exchange.request, exchange.reply
     assert request and reply
-    width = max(1, round(140 * (exchange.after or 0) / greatest))
+    width = max(1, round(110 * (exchange.after or 0) / greatest))
     outcome = reply.text if reply.tone != "fine" or reply.kind == "KPASSWD" else reply.kind
     waited = span(exchange.waited) if exchange.waited is not None and exchange.waited != exchange.after else ""
     return (

@@ -1,9 +1,10 @@
-use Rattle.krb_items_run.proofs.Listables.{few-layers, layer-listed}
+use Rattle.krb_token.specs.declared.opening.Found.TheVariants as found
+use Rattle.krb_items_run.proofs.Listables.{found-listed}
 use Rattle.krb_items_run.proofs.listable.find_listable.Goals as goal
 
-pub lies_in-requires : goal.lies_in-requires
-lies_in-requires c = few-layers c.args.octets.now c.open-opened.result c.open-opened.ensures.opened
+pub returns-in-Ntlm : goal.returns-in-Ntlm
+returns-in-Ntlm c = found-listed c.args.profile c.args.octets.now c.open-opened.result (found.Ntlm c.in-Ntlm.place) _ c.open-opened.ensures.opened c.in-Ntlm.is c.layer_listable.ensures
 
-pub returns-in-Refused-clause-found : goal.returns-in-Refused-clause-found
-returns-in-Refused-clause-found c =
-    layer-listed c.args.profile c.args.octets.now c.open-opened.result c.in-Refused.refusal c.in-Refused.path _ c.open-opened.ensures.opened c.in-Refused.is c.refused_layer.ensures.found
+pub returns-in-Refused : goal.returns-in-Refused
+returns-in-Refused c =
+    found-listed c.args.profile c.args.octets.now c.open-opened.result (found.Refused c.in-Refused.refusal c.in-Refused.path) _ c.open-opened.ensures.opened c.in-Refused.is c.layer_listable-in-Refused.ensures

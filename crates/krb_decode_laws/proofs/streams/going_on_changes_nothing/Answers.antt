@@ -1,0 +1,11 @@
+use Rattle.krb_decode_laws.proofs.StreamEnds.{going_on_changes_nothing}
+use Rattle.krb_decode_laws.proofs.streams.going_on_changes_nothing.Goals as goal
+
+pub returns : goal.returns
+returns c = going_on_changes_nothing (record {
+  prefix_free = c.der_is_prefix_free.ensures;
+  inside = c.refusals_are_inside.ensures;
+  end_line_is = c.end_is_one_line.ensures.stream;
+  counted_line_is = c.end_is_one_line.ensures.counted;
+  json = c.texts_are_json.ensures;
+})
