@@ -61,11 +61,15 @@ names-differ origin (tells.Either again answer) (message.AsReq m) = refl
 names-differ origin (tells.Either again answer) other = refl
 
 -- ---- what they say
+pub origin-speaks : (origin : CaptureOrigin) → OriginIsInRange origin → AreSpeaking (origin_fields forms.Json origin)
+origin-speaks origin range = speaking (origin_fields forms.Json origin) (shown-origin forms.Json origin range) (origin-worded origin range)
+
+pub last-speaks : (origin : CaptureOrigin) → AreSpeaking (last_fields origin)
+last-speaks origin = speaking (last_fields origin) (shown-last origin) (last-worded origin)
+
 all-speak : (origin : CaptureOrigin) (m : Message) → OriginIsInRange origin → IsInProfile profiles.Lenient m → AreSpeaking (origin_fields forms.Json origin ++ (message_record m).fields ++ last_fields origin)
 all-speak origin m range good =
-    let from = speaking (origin_fields forms.Json origin) (shown-origin forms.Json origin range) (origin-worded origin range) in
-    let last = speaking (last_fields origin) (shown-last origin) (last-worded origin) in
-    all-speaking (origin_fields forms.Json origin ++ (message_record m).fields) (last_fields origin) (all-speaking (origin_fields forms.Json origin) (message_record m).fields from (its-fields m good)) last
+    all-speaking (origin_fields forms.Json origin ++ (message_record m).fields) (last_fields origin) (all-speaking (origin_fields forms.Json origin) (message_record m).fields (origin-speaks origin range) (its-fields m good)) (last-speaks origin)
 
 pub captured-say : CapturedMessagesSayObjects
 captured-say origin m range good path field i =

@@ -31,3 +31,4 @@ pub mod MessagesListed
 pub mod AllKinds
 pub mod TimeWords
 pub mod CapturedSay
+pub mod RecordsSay

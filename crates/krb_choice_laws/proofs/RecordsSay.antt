@@ -1,0 +1,165 @@
+-- In rows of refusals, ends and captures a cell is what the object says.
+use Rattle.std.proofs.Common.{◌≡◌, ℕ, pos, true, Option, Some, None, IfSome, List, [], ◌∷◌, ◌++◌, refl, codes}
+use Rattle.std.specs.List.{AllByRecursion}
+use Rattle.krb_der.specs.Octets.{AreOctets}
+use Rattle.krb_der.specs.Reasons.{reason_name, reason_number}
+use Rattle.krb_der.specs.declared.verdict.Refusal.{Refusal}
+use Rattle.krb_der.specs.declared.why.Why.{Why}
+use Rattle.krb_der.specs.declared.why.Why.TheVariants as whys
+use Rattle.krb_source.specs.FileReasons.{file_reason_name}
+use Rattle.krb_source.specs.Spellings.{spelling_name}
+use Rattle.krb_source.specs.UnreadReasons.{unread_reason_name, unread_reason_number}
+use Rattle.krb_source.specs.declared.file_why.FileWhy.{FileWhy}
+use Rattle.krb_source.specs.declared.file_why.FileWhy.TheVariants as files
+use Rattle.krb_source.specs.declared.spelling.Spelling.{Spelling}
+use Rattle.krb_source.specs.declared.spelling.Spelling.TheVariants as spellings
+use Rattle.krb_source.specs.declared.unread_why.UnreadWhy.{UnreadWhy}
+use Rattle.krb_source.specs.declared.unread_why.UnreadWhy.TheVariants as unread
+use Rattle.krb_msg.specs.Stream.{Boundary, End, Refused, Within}
+use Rattle.krb_record.specs.Captures.{capture_end_record, capture_refused_record, captured, last_fields, lost_record, origin_fields, password_record, told_counts, told_fields, told_in, unread_record}
+use Rattle.krb_record.specs.Files.{file_record}
+use Rattle.krb_record.specs.Inputs.{input_refused_record, input_word}
+use Rattle.krb_record.specs.Laws.{OriginIsInRange}
+use Rattle.krb_record.specs.Refusals.{extent_in, file_refused_record, message_refused_record, path_in, refusal_record}
+use Rattle.krb_record.specs.Streams.{counted_end_record, refused_record}
+use Rattle.krb_record.specs.Values.{Field, Number, Printed, Reason, String, Word, if_there, printed, the}
+use Rattle.krb_record.specs.declared.capture.CaptureCounts.{CaptureCounts}
+use Rattle.krb_record.specs.declared.capture_origin.CaptureOrigin.{CaptureOrigin}
+use Rattle.krb_record.specs.declared.extent.Extent.{Extent}
+use Rattle.krb_record.specs.declared.form.Form.TheVariants.{Json}
+use Rattle.krb_record.specs.declared.input.InputFault.{InputFault}
+use Rattle.krb_record.specs.declared.input.InputFault.TheVariants as faults
+use Rattle.krb_record.specs.declared.told.Told.{Told}
+use Rattle.krb_record.specs.declared.told.Told.TheVariants as tells
+use Rattle.krb_record.specs.declared.told.ToldCounts.{ToldCounts}
+use Rattle.krb_text.specs.StreamEnds.{end_record}
+use Rattle.krb_choice_laws.specs.Cells.{IsWord, NamesDiffer, Speaks}
+use Rattle.krb_choice_laws.specs.Messages.{SaysAll}
+use Rattle.krb_choice_laws.specs.Says.{CapturesSayObjects, EndsSayObjects}
+use Rattle.krb_choice_laws.proofs.CapturedSay.{last-speaks, origin-speaks}
+use Rattle.krb_choice_laws.proofs.MessagesSay.{one-speaks}
+use Rattle.krb_choice_laws.proofs.Objects.{objects-say}
+use Rattle.krb_choice_laws.proofs.Words.{reason-word}
+use Rattle.krb_choice_laws.proofs.Worded.{AreSpeaking, all-speaking}
+
+pub says : (r : Printed) → NamesDiffer r → AreSpeaking (r.origin ++ r.fields ++ r.last) → SaysAll r
+says r d h path field i = objects-say r d path field i (one-speaks (r.origin ++ r.fields ++ r.last) field h i)
+
+-- ---- words
+file-word : (reason : FileWhy) → IsWord (file_reason_name reason)
+file-word files.Magic = refl
+file-word other = refl
+
+unread-word : (reason : UnreadWhy) → IsWord (unread_reason_name reason)
+unread-word unread.Surplus = refl
+unread-word other = refl
+
+spelling-word : (s : Spelling) → IsWord (spelling_name s)
+spelling-word spellings.Octets = refl
+spelling-word other = refl
+
+spelling-speaks : (s : Option Spelling) → Speaks (if_there (λ s. Word (spelling_name s)) s)
+spelling-speaks None = tt
+spelling-speaks (Some s) = spelling-word s
+
+input-speaks : (fault : InputFault) → IsWord (input_word fault)
+input-speaks (faults.Misspelled spelling) = spelling-word spelling
+input-speaks faults.Length = refl
+input-speaks faults.Ntlm = refl
+
+path-speaks : (path : Option (List ℕ)) → IfSome path AreOctets → Speaks (if_there String path)
+path-speaks None h = tt
+path-speaks (Some octets) h = h
+
+number-speaks : (n : Option ℕ) → Speaks (if_there (λ n. Number (pos n)) n)
+number-speaks None = tt
+number-speaks (Some n) = tt
+
+-- ---- refusals and ends
+frame-says : (messages place : ℕ) (reason : Why) (path : Option (List ℕ)) (extent : Extent) → IfSome path AreOctets → SaysAll (refused_record Json messages place reason path extent)
+frame-says messages place reason path extent h =
+    says (refused_record Json messages place reason path extent) refl (tt, (tt, (reason-word reason, (path-speaks path h, (tt, (number-speaks extent.length, tt))))))
+
+stream-says : (messages : ℕ) (end : End) (path : Option (List ℕ)) (extent : Extent) → IfSome path AreOctets → SaysAll (end_record Json messages end path extent)
+stream-says messages Boundary path extent h = says (end_record Json messages Boundary path extent) refl (tt, tt)
+stream-says messages (Within present) path extent h = frame-says messages present whys.Truncated path extent h
+stream-says messages (Refused place reason) path extent h = frame-says messages place reason path extent h
+
+pub ends-say : EndsSayObjects
+ends-say = record {
+  file = λ place reason path extent h. says (file_refused_record Json place reason path extent) refl (tt, (file-word reason, (path-speaks path h, (tt, (number-speaks extent.length, tt)))));
+  message = λ refusal path extent spelling h. says (message_refused_record Json refusal path extent spelling) refl (tt, (reason-word refusal.why, (path-speaks path h, (tt, (number-speaks extent.length, (spelling-word spelling, tt))))));
+  input = λ fault place extent spelling. says (input_refused_record Json fault place extent spelling) refl (input-speaks fault, (number-speaks place, (tt, (tt, (tt, (number-speaks extent.length, (spelling-speaks spelling, tt)))))));
+  stream = stream-says;
+  counted = λ messages refused. says (counted_end_record messages refused) refl (tt, (tt, tt));
+  name = λ name h. says (file_record name) refl (h, tt);
+}
+
+-- ---- captures
+module _ (origin : CaptureOrigin) (range : OriginIsInRange origin) where
+  of-capture : (kind : List ℕ) (fields : List Field) → NamesDiffer (captured Json origin (printed kind fields)) → AreSpeaking fields → SaysAll (captured Json origin (printed kind fields))
+  of-capture kind fields d h =
+      says (captured Json origin (printed kind fields)) d
+      (all-speaking (origin_fields Json origin ++ fields) (last_fields origin) (all-speaking (origin_fields Json origin) fields (origin-speaks origin range) h) (last-speaks origin))
+
+-- what is told, whatever it is
+abbrev told-as : CaptureOrigin → Told → CaptureOrigin
+told-as origin told = record origin { told = told }
+
+refusal-names : (origin : CaptureOrigin) (told : Told) (refusal : Refusal) (path : Option (List ℕ)) (extent : Extent) → NamesDiffer (captured Json (told-as origin told) (refusal_record refusal (path_in Json path ++ extent_in Json extent)))
+unfolding told_in told_fields
+refusal-names origin tells.Nothing refusal path extent = refl
+refusal-names origin (tells.Request again) refusal path extent = refl
+refusal-names origin (tells.Reply answer) refusal path extent = refl
+refusal-names origin (tells.Either again answer) refusal path extent = refl
+
+joined-names : (origin : CaptureOrigin) (told : Told) → NamesDiffer (captured Json (told-as origin told) (printed (codes "joined") []))
+unfolding told_in told_fields
+joined-names origin tells.Nothing = refl
+joined-names origin (tells.Request again) = refl
+joined-names origin (tells.Reply answer) = refl
+joined-names origin (tells.Either again answer) = refl
+
+lost-names : (origin : CaptureOrigin) (told : Told) (place octets : ℕ) (path : Option (List ℕ)) → NamesDiffer (captured Json (told-as origin told) (lost_record Json place octets path))
+unfolding told_in told_fields
+lost-names origin tells.Nothing place octets path = refl
+lost-names origin (tells.Request again) place octets path = refl
+lost-names origin (tells.Reply answer) place octets path = refl
+lost-names origin (tells.Either again answer) place octets path = refl
+
+unread-names : (origin : CaptureOrigin) (told : Told) (place : Option ℕ) (octets : ℕ) (reason : UnreadWhy) → NamesDiffer (captured Json (told-as origin told) (unread_record place octets reason))
+unfolding told_in told_fields
+unread-names origin tells.Nothing place octets reason = refl
+unread-names origin (tells.Request again) place octets reason = refl
+unread-names origin (tells.Reply answer) place octets reason = refl
+unread-names origin (tells.Either again answer) place octets reason = refl
+
+password-names : (origin : CaptureOrigin) (told : Told) (version ap rest : ℕ) → NamesDiffer (captured Json (told-as origin told) (password_record version ap rest))
+unfolding told_in told_fields
+password-names origin tells.Nothing version ap rest = refl
+password-names origin (tells.Request again) version ap rest = refl
+password-names origin (tells.Reply answer) version ap rest = refl
+password-names origin (tells.Either again answer) version ap rest = refl
+
+capture-end : (counts : CaptureCounts) (told : ToldCounts) → SaysAll (capture_end_record Json counts told)
+unfolding told_counts
+capture-end counts told = says (capture_end_record Json counts told) refl (tt, (tt, (tt, (tt, (tt, (tt, (tt, (tt, (tt, tt)))))))))
+
+capture-refused : (counts : CaptureCounts) (told : ToldCounts) (place : ℕ) (reason : FileWhy) (path : Option (List ℕ)) (extent : Extent) → IfSome path AreOctets → SaysAll (capture_refused_record Json counts told place reason path extent)
+unfolding told_counts
+capture-refused counts told place reason path extent h =
+    says (capture_refused_record Json counts told place reason path extent) refl
+    (tt, (tt, (tt, (tt, (tt, (tt, (file-word reason, (path-speaks path h, (tt, (number-speaks extent.length, (tt, (tt, (tt, (tt, tt))))))))))))))
+
+pub captures-say : CapturesSayObjects
+captures-say = record {
+  refusal = λ origin refusal path extent range h.
+      of-capture origin range (codes "refused") (refusal_record refusal (path_in Json path ++ extent_in Json extent)).fields (refusal-names origin origin.told refusal path extent)
+      (tt, (reason-word refusal.why, (path-speaks path h, (tt, (number-speaks extent.length, tt)))));
+  joined = λ origin range. of-capture origin range (codes "joined") [] (joined-names origin origin.told) tt;
+  lost = λ origin place octets path range h. of-capture origin range (codes "lost") (lost_record Json place octets path).fields (lost-names origin origin.told place octets path) (tt, (tt, (path-speaks path h, tt)));
+  unread = λ origin place octets reason range. of-capture origin range (codes "unread") (unread_record place octets reason).fields (unread-names origin origin.told place octets reason) (number-speaks place, (tt, (unread-word reason, tt)));
+  password = λ origin version ap rest range. of-capture origin range (codes "KPASSWD") (password_record version ap rest).fields (password-names origin origin.told version ap rest) (tt, (tt, (tt, tt)));
+  end = capture-end;
+  file = capture-refused;
+}

@@ -1,0 +1,60 @@
+-- Cells of records but those of messages say what their objects say. Rows and objects are made of the same record.
+use Rattle.std.specs.Prelude.{ℕ, [], List, ◌++◌, Option, IfSome, codes}
+use Rattle.krb_der.specs.Octets.{AreOctets}
+use Rattle.krb_der.specs.declared.verdict.Refusal.{Refusal}
+use Rattle.krb_source.specs.declared.file_why.FileWhy.{FileWhy}
+use Rattle.krb_source.specs.declared.spelling.Spelling.{Spelling}
+use Rattle.krb_source.specs.declared.unread_why.UnreadWhy.{UnreadWhy}
+use Rattle.krb_keytab.specs.declared.value.Record.{Record}
+use Rattle.krb_keytab.specs.declared.value.Stop.{Stop}
+use Rattle.krb_ccache.specs.declared.value.Credential.{Credential}
+use Rattle.krb_ccache.specs.declared.value.FilePrincipal.{FilePrincipal}
+use Rattle.krb_ccache.specs.declared.value.Header.{Header}
+use Rattle.krb_msg.specs.Stream.{End}
+use Rattle.krb_record.specs.Captures.{capture_end_record, capture_refused_record, captured, lost_record, password_record, unanswered_record, unread_record}
+use Rattle.krb_record.specs.Files.{file_record}
+use Rattle.krb_record.specs.Inputs.{input_refused_record}
+use Rattle.krb_record.specs.Laws.{OriginIsInRange}
+use Rattle.krb_record.specs.Refusals.{extent_in, file_refused_record, message_refused_record, path_in, refusal_record}
+use Rattle.krb_record.specs.Streams.{counted_end_record}
+use Rattle.krb_record.specs.Values.{printed}
+use Rattle.krb_record.specs.declared.capture.CaptureCounts.{CaptureCounts}
+use Rattle.krb_record.specs.declared.capture_origin.CaptureOrigin.{CaptureOrigin}
+use Rattle.krb_record.specs.declared.extent.Extent.{Extent}
+use Rattle.krb_record.specs.declared.form.Form.TheVariants.{Json}
+use Rattle.krb_record.specs.declared.input.InputFault.{InputFault}
+use Rattle.krb_record.specs.declared.told.Answer.{Answer}
+use Rattle.krb_record.specs.declared.told.Request.{Request}
+use Rattle.krb_record.specs.declared.told.ToldCounts.{ToldCounts}
+use Rattle.krb_text.specs.StreamEnds.{end_record}
+use Rattle.krb_list.specs.Ccaches.{cache_end, cache_record, credential_record}
+use Rattle.krb_list.specs.Keytabs.{keytab_end, printed_record}
+use Rattle.krb_list.specs.Laws.{CredentialIsOfOctets, PrincipalIsOfOctets, RecordIsOfOctets}
+use Rattle.krb_choice_laws.specs.Messages.{SaysAll}
+
+-- a refused file, message or input, the end or the refusal of a stream, and the name of a file
+pub record EndsSayObjects : Type 0 where
+  pub file : (place : ℕ) (reason : FileWhy) (path : Option (List ℕ)) (extent : Extent) → IfSome path AreOctets → SaysAll (file_refused_record Json place reason path extent)
+  pub message : (refusal : Refusal) (path : Option (List ℕ)) (extent : Extent) (spelling : Spelling) → IfSome path AreOctets → SaysAll (message_refused_record Json refusal path extent spelling)
+  pub input : (fault : InputFault) (place : Option ℕ) (extent : Extent) (spelling : Option Spelling) → SaysAll (input_refused_record Json fault place extent spelling)
+  pub stream : (messages : ℕ) (end : End) (path : Option (List ℕ)) (extent : Extent) → IfSome path AreOctets → SaysAll (end_record Json messages end path extent)
+  pub counted : (messages refused : ℕ) → SaysAll (counted_end_record messages refused)
+  pub name : (name : List ℕ) → AreOctets name → SaysAll (file_record name)
+
+-- what is found in a capture, and its end or its refusal
+pub record CapturesSayObjects : Type 0 where
+  pub refusal : (origin : CaptureOrigin) (refusal : Refusal) (path : Option (List ℕ)) (extent : Extent) → OriginIsInRange origin → IfSome path AreOctets → SaysAll (captured Json origin (refusal_record refusal (path_in Json path ++ extent_in Json extent)))
+  pub joined : (origin : CaptureOrigin) → OriginIsInRange origin → SaysAll (captured Json origin (printed (codes "joined") []))
+  pub lost : (origin : CaptureOrigin) (place octets : ℕ) (path : Option (List ℕ)) → OriginIsInRange origin → IfSome path AreOctets → SaysAll (captured Json origin (lost_record Json place octets path))
+  pub unread : (origin : CaptureOrigin) (place : Option ℕ) (octets : ℕ) (reason : UnreadWhy) → OriginIsInRange origin → SaysAll (captured Json origin (unread_record place octets reason))
+  pub password : (origin : CaptureOrigin) (version ap rest : ℕ) → OriginIsInRange origin → SaysAll (captured Json origin (password_record version ap rest))
+  pub end : (counts : CaptureCounts) (told : ToldCounts) → SaysAll (capture_end_record Json counts told)
+  pub file : (counts : CaptureCounts) (told : ToldCounts) (place : ℕ) (reason : FileWhy) (path : Option (List ℕ)) (extent : Extent) → IfSome path AreOctets → SaysAll (capture_refused_record Json counts told place reason path extent)
+
+-- entries and holes of a keytab, a cache and its credentials, and the ends of both
+pub record FilesSayObjects : Type 0 where
+  pub record_is : (r : Record) → RecordIsOfOctets r → SaysAll (printed_record r)
+  pub keytab : (count : ℕ) (stop : Stop) → SaysAll (keytab_end count stop)
+  pub cache : (header : Header) (principal : FilePrincipal) → PrincipalIsOfOctets principal → SaysAll (cache_record header principal)
+  pub credential : (now : Option ℕ) (c : Credential) → CredentialIsOfOctets c → SaysAll (credential_record Json now c)
+  pub credentials : (count : ℕ) → SaysAll (cache_end count)
