@@ -29,7 +29,7 @@ time-worded : (time : Option Timestamp) → IfSome time (λ time. time.seconds <
 time-worded None h = tt
 time-worded (Some time) h = timestamp time.seconds time.nanoseconds h
 
-answer-worded : (answer : Answer) → AreWorded (answer_fields answer)
+pub answer-worded : (answer : Answer) → AreWorded (answer_fields answer)
 answer-worded answer = (optional (λ packet. Number (pos packet)) (λ n. tt) answer.of, (optional (λ span. Span span.microseconds) (λ span. tt) answer.after, (optional (λ span. Span span.microseconds) (λ span. tt) answer.waited, tt)))
 
 told-worded : (told : Told) → AreWorded (told_fields told)

@@ -32,3 +32,4 @@ pub mod AllKinds
 pub mod TimeWords
 pub mod CapturedSay
 pub mod RecordsSay
+pub mod FilesSay

@@ -47,6 +47,7 @@ pub fn cells_say_members()
 pub fn records_say_objects()
     ensures end { EndsSayObjects }
     ensures capture { CapturesSayObjects }
+    ensures file { FilesSayObjects }
 {}
 
 /// A message that a choice keeps is of a kind that is shown in the form of the choice, and a choice by

@@ -1,3 +1,4 @@
+use Rattle.krb_choice_laws.proofs.FilesSay.{files-say}
 use Rattle.krb_choice_laws.proofs.RecordsSay.{captures-say, ends-say}
 use Rattle.krb_choice_laws.proofs.chosen.records_say_objects.Goals as goal
 
@@ -6,3 +7,6 @@ returns-clause-end c = ends-say
 
 pub returns-clause-capture : goal.returns-clause-capture
 returns-clause-capture c = captures-say
+
+pub returns-clause-file : goal.returns-clause-file
+returns-clause-file c = files-say
