@@ -1,6 +1,5 @@
 -- In rows of messages of a capture a cell is what the object says.
-use Rattle.std.proofs.Common.{◌≡◌, ℕ, pos, ◌^◌, ◌<◌, true, Option, Some, None, IfSome, List, [], ◌∷◌, ◌++◌, refl, codes}
-use Rattle.std.specs.List.{AllByRecursion, Contains}
+use Rattle.std.proofs.Common.{pos, ◌^◌, ◌<◌, Option, Some, None, IfSome, ◌∷◌, ◌++◌, refl, codes}
 use Rattle.krb_der.specs.declared.profile.Profile.TheVariants as profiles
 use Rattle.krb_msg.specs.Views.{IsInProfile}
 use Rattle.krb_msg.specs.declared.message.Message.{Message}
@@ -9,7 +8,7 @@ use Rattle.krb_source.specs.declared.timestamp.Timestamp.{Timestamp}
 use Rattle.krb_record.specs.Captures.{answer_fields, captured, last_fields, origin_fields, time_field, told_fields, told_in}
 use Rattle.krb_record.specs.Laws.{OriginIsInRange}
 use Rattle.krb_record.specs.Time.{microseconds, timestamp_text}
-use Rattle.krb_record.specs.Values.{Field, Flow, Number, Span, Word, if_there, the, with_last, with_origin}
+use Rattle.krb_record.specs.Values.{Flow, Number, Span, Word, if_there, the, with_last, with_origin}
 use Rattle.krb_record.specs.declared.capture_origin.CaptureOrigin.{CaptureOrigin}
 use Rattle.krb_record.specs.declared.form.Form.TheVariants as forms
 use Rattle.krb_record.specs.declared.told.Answer.{Answer}

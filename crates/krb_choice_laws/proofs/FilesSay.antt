@@ -1,5 +1,5 @@
 -- In rows of keytabs and caches a cell is what the object says.
-use Rattle.std.proofs.Common.{◌≡◌, ℕ, ◌^◌, ◌<◌, ◌==◌, nat_lt, Bool, true, false, Option, Some, None, List, [], ◌∷◌, ◌++◌, refl, codes, if◌then◌else◌}
+use Rattle.std.proofs.Common.{ℕ, ◌^◌, ◌<◌, ◌==◌, nat_lt, Bool, true, false, Option, Some, None, List, [], ◌∷◌, refl, codes, if◌then◌else◌}
 use Rattle.krb_der.specs.Octets.{AreOctets, when}
 use Rattle.krb_der.specs.declared.profile.Profile.TheVariants as profiles
 use Rattle.krb_der.specs.declared.verdict.Refusal.{Refusal}

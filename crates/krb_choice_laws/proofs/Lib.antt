@@ -33,3 +33,4 @@ pub mod TimeWords
 pub mod CapturedSay
 pub mod RecordsSay
 pub mod FilesSay
+pub mod IcmpWords

@@ -1,14 +1,13 @@
 -- In rows of refusals, ends and captures a cell is what the object says.
-use Rattle.std.proofs.Common.{◌≡◌, ℕ, pos, true, Option, Some, None, IfSome, List, [], ◌∷◌, ◌++◌, sym, refl, subst, codes}
-use Rattle.std.specs.List.{AllByRecursion}
+use Rattle.std.proofs.Common.{◌≡◌, ℕ, pos, Option, Some, None, IfSome, List, [], ◌∷◌, ◌++◌, sym, refl, subst, codes}
+use Rattle.std.specs.Net.Addr.{IsIpv4Addr, IsIpv6Addr, MatchIp}
 use Rattle.krb_der.specs.Octets.{AreOctets}
-use Rattle.krb_der.specs.Reasons.{reason_name, reason_number}
 use Rattle.krb_der.specs.declared.verdict.Refusal.{Refusal}
 use Rattle.krb_der.specs.declared.why.Why.{Why}
 use Rattle.krb_der.specs.declared.why.Why.TheVariants as whys
 use Rattle.krb_source.specs.FileReasons.{file_reason_name}
 use Rattle.krb_source.specs.Spellings.{spelling_name}
-use Rattle.krb_source.specs.UnreadReasons.{unread_reason_name, unread_reason_number}
+use Rattle.krb_source.specs.UnreadReasons.{unread_reason_name}
 use Rattle.krb_source.specs.declared.file_why.FileWhy.{FileWhy}
 use Rattle.krb_source.specs.declared.file_why.FileWhy.TheVariants as files
 use Rattle.krb_source.specs.declared.spelling.Spelling.{Spelling}
@@ -21,14 +20,19 @@ use Rattle.krb_msg.specs.Types.{ticket_value}
 use Rattle.krb_msg.specs.declared.ticket.Ticket.{Ticket}
 use Rattle.krb_source.specs.declared.layer.Layer.{Layer}
 use Rattle.krb_msg.specs.Stream.{Boundary, End, Refused, Within}
-use Rattle.krb_record.specs.Captures.{answer_fields, capture_end_record, capture_refused_record, captured, last_fields, lost_record, origin_fields, password_record, request_name, told_counts, told_fields, told_in, unanswered_record, unread_record}
+use Rattle.krb_record.specs.Captures.{answer_fields, capture_end_record, capture_refused_record, captured, how_fields, last_fields, lost_record, origin_fields, password_record, request_name, told_counts, told_fields, told_in, unanswered_record, unreachable_record, unread_record}
 use Rattle.krb_record.specs.Files.{file_record}
 use Rattle.krb_record.specs.Inputs.{input_refused_record, input_word}
 use Rattle.krb_record.specs.Laws.{OriginIsInRange}
 use Rattle.krb_record.specs.Origins.{message_origin}
 use Rattle.krb_record.specs.Refusals.{extent_in, file_refused_record, message_refused_record, path_in, refusal_record}
 use Rattle.krb_record.specs.Streams.{counted_end_record, refused_record}
-use Rattle.krb_record.specs.Values.{Field, Number, Printed, Reason, String, Word, if_there, printed, with_origin}
+use Rattle.krb_record.specs.Unreachables.{error_of, version_name}
+use Rattle.krb_record.specs.declared.unreachable.How.{How}
+use Rattle.krb_record.specs.declared.unreachable.How.TheVariants as hows
+use Rattle.krb_record.specs.declared.unreachable.IcmpVersion.{IcmpVersion}
+use Rattle.krb_record.specs.declared.unreachable.IcmpVersion.TheVariants as versions
+use Rattle.krb_record.specs.Values.{Field, Number, Printed, String, Word, if_there, printed, with_origin}
 use Rattle.krb_record.specs.declared.capture.CaptureCounts.{CaptureCounts}
 use Rattle.krb_record.specs.declared.capture_origin.CaptureOrigin.{CaptureOrigin}
 use Rattle.krb_record.specs.declared.extent.Extent.{Extent}
@@ -49,6 +53,7 @@ use Rattle.krb_choice_laws.specs.Cells.{IsWord, NamesDiffer, Speaks}
 use Rattle.krb_choice_laws.specs.Messages.{SaysAll}
 use Rattle.krb_choice_laws.specs.Says.{CapturesSayObjects, EndsSayObjects}
 use Rattle.krb_choice_laws.proofs.CapturedSay.{answer-worded, last-speaks, origin-speaks}
+use Rattle.krb_choice_laws.proofs.IcmpWords.{code-word, type-word}
 use Rattle.krb_choice_laws.proofs.MessagesPlain.{answer_shown}
 use Rattle.krb_choice_laws.proofs.MessagesSay.{one-speaks, origin-worded}
 use Rattle.krb_choice_laws.proofs.Objects.{objects-say}
@@ -202,6 +207,25 @@ unanswered-says origin request answer range e =
     of-capture origin range (codes "unanswered") (unanswered_record request answer).fields (subst (λ (told : Told). NamesDiffer (captured Json (told-as origin told) (unanswered_record request answer))) (sym e) (unanswered-names origin request answer))
     (request-word request, speaking (answer_fields answer) (answer_shown answer) (answer-worded answer))
 
+-- of somebody who could not be reached
+version-word : (version : IcmpVersion) → IsWord (version_name version)
+version-word versions.V4 = refl
+version-word versions.V6 = refl
+
+how-speaks : (how : How) → IfSome (error_of how) (λ error. MatchIp error.by IsIpv4Addr IsIpv6Addr) → AreSpeaking (how_fields how)
+how-speaks hows.Reset h = (refl, (tt, (tt, (tt, tt))))
+how-speaks hows.Silent h = (refl, (tt, (tt, (tt, tt))))
+how-speaks (hows.Error error) h = (version-word error.version, (h, (type-word error.version error.error_type, (code-word error.version error.error_type error.code, tt))))
+
+unreachable-names : (origin : CaptureOrigin) (how : How) (answer : Answer) → NamesDiffer (captured Json (told-as origin tells.Nothing) (unreachable_record how answer))
+unfolding told_in told_fields
+unreachable-names origin how answer = refl
+
+unreachable-says : (origin : CaptureOrigin) (how : How) (answer : Answer) → OriginIsInRange origin → origin.told ≡ tells.Nothing → IfSome (error_of how) (λ error. MatchIp error.by IsIpv4Addr IsIpv6Addr) → SaysAll (captured Json origin (unreachable_record how answer))
+unreachable-says origin how answer range e h =
+    of-capture origin range (codes "unreachable") (unreachable_record how answer).fields (subst (λ (told : Told). NamesDiffer (captured Json (told-as origin told) (unreachable_record how answer))) (sym e) (unreachable-names origin how answer))
+    (all-speaking (how_fields how) (answer_fields answer) (how-speaks how h) (speaking (answer_fields answer) (answer_shown answer) (answer-worded answer)))
+
 capture-end : (counts : CaptureCounts) (told : ToldCounts) → SaysAll (capture_end_record Json counts told)
 unfolding told_counts
 capture-end counts told = says (capture_end_record Json counts told) refl (tt, (tt, (tt, (tt, (tt, (tt, (tt, (tt, (tt, tt)))))))))
@@ -222,6 +246,7 @@ captures-say = record {
   unread = λ origin place octets reason range. of-capture origin range (codes "unread") (unread_record place octets reason).fields (unread-names origin origin.told place octets reason) (number-speaks place, (tt, (unread-word reason, tt)));
   password = λ origin version ap rest range. of-capture origin range (codes "KPASSWD") (password_record version ap rest).fields (password-names origin origin.told version ap rest) (tt, (tt, (tt, tt)));
   unanswered = unanswered-says;
+  unreachable = unreachable-says;
   end = capture-end;
   file = capture-refused;
 }

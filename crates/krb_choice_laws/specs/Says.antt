@@ -1,5 +1,6 @@
 -- Cells of records but those of messages say what their objects say. Rows and objects are made of the same record.
 use Rattle.std.specs.Prelude.{ℕ, ◌≡◌, [], List, ◌++◌, Option, IfSome, codes}
+use Rattle.std.specs.Net.Addr.{IsIpv4Addr, IsIpv6Addr, MatchIp}
 use Rattle.krb_der.specs.Octets.{AreOctets}
 use Rattle.krb_der.specs.declared.verdict.Refusal.{Refusal}
 use Rattle.krb_source.specs.declared.file_why.FileWhy.{FileWhy}
@@ -16,13 +17,14 @@ use Rattle.krb_msg.specs.Stream.{End}
 use Rattle.krb_msg.specs.Term.{Fits}
 use Rattle.krb_msg.specs.Types.{ticket_value}
 use Rattle.krb_msg.specs.declared.ticket.Ticket.{Ticket}
-use Rattle.krb_record.specs.Captures.{capture_end_record, capture_refused_record, captured, lost_record, password_record, unanswered_record, unread_record}
+use Rattle.krb_record.specs.Captures.{capture_end_record, capture_refused_record, captured, lost_record, password_record, unanswered_record, unreachable_record, unread_record}
 use Rattle.krb_record.specs.Files.{file_record}
 use Rattle.krb_record.specs.Inputs.{input_refused_record}
 use Rattle.krb_record.specs.Laws.{OriginIsInRange}
 use Rattle.krb_record.specs.Origins.{message_origin}
 use Rattle.krb_record.specs.Refusals.{extent_in, file_refused_record, message_refused_record, path_in, refusal_record}
 use Rattle.krb_record.specs.Streams.{counted_end_record}
+use Rattle.krb_record.specs.Unreachables.{error_of}
 use Rattle.krb_record.specs.Values.{printed, with_origin}
 use Rattle.krb_record.specs.declared.capture.CaptureCounts.{CaptureCounts}
 use Rattle.krb_record.specs.declared.capture_origin.CaptureOrigin.{CaptureOrigin}
@@ -33,6 +35,7 @@ use Rattle.krb_record.specs.declared.told.Answer.{Answer}
 use Rattle.krb_record.specs.declared.told.Request.{Request}
 use Rattle.krb_record.specs.declared.told.Told.TheVariants.{Nothing}
 use Rattle.krb_record.specs.declared.told.ToldCounts.{ToldCounts}
+use Rattle.krb_record.specs.declared.unreachable.How.{How}
 use Rattle.krb_text.specs.Messages.{ticket_record}
 use Rattle.krb_text.specs.StreamEnds.{end_record}
 use Rattle.krb_list.specs.Ccaches.{cache_end, cache_record, credential_record}
@@ -58,6 +61,7 @@ pub record CapturesSayObjects : Type 0 where
   pub unread : (origin : CaptureOrigin) (place : Option ℕ) (octets : ℕ) (reason : UnreadWhy) → OriginIsInRange origin → SaysAll (captured Json origin (unread_record place octets reason))
   pub password : (origin : CaptureOrigin) (version ap rest : ℕ) → OriginIsInRange origin → SaysAll (captured Json origin (password_record version ap rest))
   pub unanswered : (origin : CaptureOrigin) (request : Request) (answer : Answer) → OriginIsInRange origin → origin.told ≡ Nothing → SaysAll (captured Json origin (unanswered_record request answer))
+  pub unreachable : (origin : CaptureOrigin) (how : How) (answer : Answer) → OriginIsInRange origin → origin.told ≡ Nothing → IfSome (error_of how) (λ error. MatchIp error.by IsIpv4Addr IsIpv6Addr) → SaysAll (captured Json origin (unreachable_record how answer))
   pub end : (counts : CaptureCounts) (told : ToldCounts) → SaysAll (capture_end_record Json counts told)
   pub file : (counts : CaptureCounts) (told : ToldCounts) (place : ℕ) (reason : FileWhy) (path : Option (List ℕ)) (extent : Extent) → IfSome path AreOctets → SaysAll (capture_refused_record Json counts told place reason path extent)
 
