@@ -34,3 +34,4 @@ pub mod CapturedSay
 pub mod RecordsSay
 pub mod FilesSay
 pub mod IcmpWords
+pub mod RowsObjects

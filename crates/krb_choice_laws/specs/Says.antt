@@ -1,4 +1,4 @@
--- Cells of records but those of messages say what their objects say. Rows and objects are made of the same record.
+-- Cells of records but those of messages say what their objects say.
 use Rattle.std.specs.Prelude.{ℕ, ◌≡◌, [], List, ◌++◌, Option, IfSome, codes}
 use Rattle.std.specs.Net.Addr.{IsIpv4Addr, IsIpv6Addr, MatchIp}
 use Rattle.krb_der.specs.Octets.{AreOctets}
@@ -25,11 +25,12 @@ use Rattle.krb_record.specs.Origins.{message_origin}
 use Rattle.krb_record.specs.Refusals.{extent_in, file_refused_record, message_refused_record, path_in, refusal_record}
 use Rattle.krb_record.specs.Streams.{counted_end_record}
 use Rattle.krb_record.specs.Unreachables.{error_of}
-use Rattle.krb_record.specs.Values.{printed, with_origin}
+use Rattle.krb_record.specs.Values.{Printed, printed, with_origin}
 use Rattle.krb_record.specs.declared.capture.CaptureCounts.{CaptureCounts}
 use Rattle.krb_record.specs.declared.capture_origin.CaptureOrigin.{CaptureOrigin}
 use Rattle.krb_record.specs.declared.extent.Extent.{Extent}
-use Rattle.krb_record.specs.declared.form.Form.TheVariants.{Json}
+use Rattle.krb_record.specs.declared.form.Form.TheVariants.{Json, Rows}
+use Rattle.krb_record.specs.declared.form.Wanted.{Wanted}
 use Rattle.krb_record.specs.declared.input.InputFault.{InputFault}
 use Rattle.krb_record.specs.declared.told.Answer.{Answer}
 use Rattle.krb_record.specs.declared.told.Request.{Request}
@@ -72,3 +73,16 @@ pub record FilesSayObjects : Type 0 where
   pub cache : (header : Header) (principal : FilePrincipal) → PrincipalIsOfOctets principal → SaysAll (cache_record header principal)
   pub credential : (now : Option ℕ) (c : Credential) → CredentialIsOfOctets c → SaysAll (credential_record Json now c)
   pub credentials : (count : ℕ) → SaysAll (cache_end count)
+
+-- Rows are made of the records of which objects are made.
+pub record RowsHaveObjects : Type 0 where
+  pub message : (wanted : Wanted) (refusal : Refusal) (path : Option (List ℕ)) (extent : Extent) (spelling : Spelling) → message_refused_record (Rows wanted) refusal path extent spelling ≡ message_refused_record Json refusal path extent spelling
+  pub input : (wanted : Wanted) (fault : InputFault) (place : Option ℕ) (extent : Extent) (spelling : Option Spelling) → input_refused_record (Rows wanted) fault place extent spelling ≡ input_refused_record Json fault place extent spelling
+  pub file : (wanted : Wanted) (place : ℕ) (reason : FileWhy) (path : Option (List ℕ)) (extent : Extent) → file_refused_record (Rows wanted) place reason path extent ≡ file_refused_record Json place reason path extent
+  pub stream : (wanted : Wanted) (messages : ℕ) (end : End) (path : Option (List ℕ)) (extent : Extent) → end_record (Rows wanted) messages end path extent ≡ end_record Json messages end path extent
+  pub of_capture : (wanted : Wanted) (origin : CaptureOrigin) (r : Printed) → captured (Rows wanted) origin r ≡ captured Json origin r
+  pub refusal : (wanted : Wanted) (refusal : Refusal) (path : Option (List ℕ)) (extent : Extent) → refusal_record refusal (path_in (Rows wanted) path ++ extent_in (Rows wanted) extent) ≡ refusal_record refusal (path_in Json path ++ extent_in Json extent)
+  pub lost : (wanted : Wanted) (place octets : ℕ) (path : Option (List ℕ)) → lost_record (Rows wanted) place octets path ≡ lost_record Json place octets path
+  pub end : (wanted : Wanted) (counts : CaptureCounts) (told : ToldCounts) → capture_end_record (Rows wanted) counts told ≡ capture_end_record Json counts told
+  pub refused_capture : (wanted : Wanted) (counts : CaptureCounts) (told : ToldCounts) (place : ℕ) (reason : FileWhy) (path : Option (List ℕ)) (extent : Extent) → capture_refused_record (Rows wanted) counts told place reason path extent ≡ capture_refused_record Json counts told place reason path extent
+  pub credential : (wanted : Wanted) (now : Option ℕ) (c : Credential) → credential_record (Rows wanted) now c ≡ credential_record Json now c
