@@ -1,6 +1,6 @@
 //! Laws of what is chosen. Each is the contract of a function that does nothing.
 
-ghost use Rattle.krb_choice_laws.specs.Cells.{CellsSayMembers, CellsSayObjects, CellsSayParts, MembersAreApart};
+ghost use Rattle.krb_choice_laws.specs.Cells.{CellsSayMembers, CellsSayObjects, CellsSayParts, InsideSaysObjects, KindsSayObjects, MembersAreApart};
 ghost use Rattle.krb_choice_laws.specs.Listing.{AllKindsAreListed, EndsAreTold, ListingsAreChosen, ListingsAreTold};
 ghost use Rattle.krb_choice_laws.specs.Messages.{CapturedCiphersAreNotChosen, CapturedMessagesArePlain, CapturedMessagesSayObjects, CiphersAreNotChosen, KeysAreNotChosen, ListedMessagesArePlain, ListedMessagesAreWhole, MessagesArePlain, MessagesSayObjects, MessagesSayParts, SessionKeysAreNotChosen};
 ghost use Rattle.krb_choice_laws.specs.Laws.{AllKindsAreKept, FileNamesAreApart, KeptKindsAreShown, NumberListsAreApart, NumbersAreApart, RowsArePrintable, StringListsAreApart, StringsAreApart, StringsAreThere, WrittenIsChosen};
@@ -36,6 +36,8 @@ pub fn cells_say_members()
     ensures field { CellsSayMembers }
     ensures object { CellsSayObjects }
     ensures part { CellsSayParts }
+    ensures kind { KindsSayObjects }
+    ensures kinds { InsideSaysObjects }
     ensures apart { MembersAreApart }
     ensures message { MessagesSayObjects }
     ensures capture { CapturedMessagesSayObjects }
