@@ -65,6 +65,7 @@ static inline uint32_t do_spans(const struct call *c, uint8_t *text, size_t room
 
 static inline uint32_t do_call(const struct call *c, uint8_t *text, size_t room, size_t *size) {
     if (!strcmp(c->command, "message")) return krbls_message(c->form, c->profile, c->octets, c->size, text, room, size);
+    if (!strcmp(c->command, "items")) return krbls_items(c->form, c->profile, c->octets, c->size, text, room, size);
     if (!strcmp(c->command, "stream"))
         return krbls_stream(c->form, c->profile, c->limit, c->going_on, c->octets, c->size, text, room, size);
     if (!strcmp(c->command, "keytab")) return krbls_keytab(c->form, c->octets, c->size, text, room, size);
