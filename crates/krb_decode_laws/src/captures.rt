@@ -21,7 +21,7 @@ pub fn decoded_is_the_listing()
 }
 
 /// The lines of a capture are encoded by [`run_encode`](krb_convert::run_encode) to a stream of its
-/// sealed messages, in the order of the listing.
+/// sealed messages, in the order of the listing, if none of them has more octets than the limit.
 pub fn captures_come_back()
     ensures { CapturesComeBack }
 {
