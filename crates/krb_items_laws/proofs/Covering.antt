@@ -59,19 +59,42 @@ none-begins tags shape names term terms values small is not = begins-with tags s
     by [] e = refl
     by (octet ∷ rest) e = other octet rest e (octet == tag_of term) refl
 
+-- ---- contents
+pub inner-at : (all : List ℕ) (here : Here) (begun : Begun) (octets : List ℕ) → IsHeaded all here.place here.depth octets begun → AreAt all begun.next octets
+inner-at all here begun octets h = subst (λ (p : ℕ). AreAt all p octets) (sym h.next) (at-rest all here.place (head_octets begun) octets h.lie)
+
+pub container-fill : (all : List ℕ) (here : Here) (begun : Begun) (octets : List ℕ) (inner : ℕ → Items) → IsHeaded all here.place here.depth octets begun → Fills all begun.next (begun.depth + 1) octets (inner (length octets))
+    → Fills all here.place here.depth (head_octets begun ++ octets) (after_item (container here.name begun) (inner (size_of begun.size)))
+container-fill all here begun octets inner h f =
+    fills-item all here.place here.depth octets (container here.name begun) (inner (size_of begun.size)) h
+    (subst (λ (d : ℕ). Fills all begun.next (d + 1) octets (inner (size_of begun.size))) h.depth_is
+    (subst (λ (n : ℕ). Fills all begun.next (begun.depth + 1) octets (inner n)) (sym (ap size_of h.size)) f))
+
+pub leaf-enough : (all : List ℕ) (levels : ℕ) (here : Here) (begun : Begun) (leaf : Leaf) (octets : List ℕ) → IsHeaded all here.place here.depth octets begun
+    → leaf_items (item_items levels (all_of all)) (all_of all) here begun leaf octets ≡ opened_items (item_items levels (all_of all)) here.name begun (leaf_after here.number leaf) octets (opened here.number leaf octets)
+leaf-enough all levels here begun leaf octets h = rw (le-ltb (length all) (begun.next + size_of begun.size) within) refl
+  where
+    within : begun.next + size_of begun.size ≤ length all
+    within = omega (arith, at-within all here.place (head_octets begun ++ octets) h.lie, length-append (head_octets begun) octets, ap size_of h.size, h.next)
+
+-- an item whose heads are read, and what is in them
+pub reads-fill : (all : List ℕ) (levels : ℕ) (here : Here) (of : ItemType) (own more octets : List ℕ) (reads : Reads (length all) (begun_here here) of.tags own more octets) → AreAt all here.place own
+    → (IsHeaded all here.place here.depth octets reads.done → Fills all here.place here.depth (head_octets reads.done ++ octets) (contents_items (item_items levels (all_of all)) (all_of all) here of.shape reads.done octets))
+    → Fills all here.place here.depth own (item_items (suc levels) (all_of all) here of (own ++ more))
+reads-fill all levels here of own more octets reads at inner =
+    let heads : head_octets reads.done ≡ flat reads.heads = ap flat reads.added in
+    let form : own ≡ head_octets reads.done ++ octets = reads.form ∙ ap (λ h. h ++ octets) (sym heads) in
+    fills-of all here.place here.depth own _ _ form
+    (fills-same all here.place here.depth _ _ _ (ap (λ h. of_headed here.name h (contents_items (item_items levels (all_of all)) (all_of all) here of.shape)) reads.is)
+    (inner (record { at = reads.at; depth_is = reads.depth; next = reads.next ∙ ap (λ h. here.place + length h) (sym heads); size = reads.size; lie = subst (AreAt all here.place) form at })))
+
 module _ (all : List ℕ) (levels : ℕ) (short : length all < 2 ^ 32) (fill : Fill all levels) (fill-held : FillHeld all levels) where
   -- ---- a value
   leaf-fill : (here : Here) (begun : Begun) (leaf : Leaf) (term : Term) (value : Value term) → IsHeaded all here.place here.depth (contents term value) begun → leaf_nests (nests levels) leaf ≡ true → is_leaf leaf term ≡ true → Fits term value
       → Fills all here.place here.depth (head_octets begun ++ contents term value) (leaf_items (item_items levels (all_of all)) (all_of all) here begun leaf (contents term value))
   leaf-fill here begun leaf term value h n l f =
-      fills-same all here.place here.depth _ _ _ enough (by (opened here.number leaf (contents term value)) refl)
+      fills-same all here.place here.depth _ _ _ (leaf-enough all levels here begun leaf (contents term value) h) (by (opened here.number leaf (contents term value)) refl)
     where
-      within : begun.next + size_of begun.size ≤ length all
-      within = omega (arith, at-within all here.place (head_octets begun ++ contents term value) h.lie, length-append (head_octets begun) (contents term value), ap size_of h.size, h.next)
-
-      enough : leaf_items (item_items levels (all_of all)) (all_of all) here begun leaf (contents term value) ≡ opened_items (item_items levels (all_of all)) here.name begun (leaf_after here.number leaf) (contents term value) (opened here.number leaf (contents term value))
-      enough = rw (le-ltb (length all) (begun.next + size_of begun.size) within) refl
-
       octets-of : (term : Term) (value : Value term) → Fits term value → term ≡ Octets → AreOctets (contents term value)
       octets-of Octets value f e = f
       octets-of other value f e = absurd cc
@@ -84,7 +107,7 @@ module _ (all : List ℕ) (levels : ℕ) (short : length all < 2 ^ 32) (fill : F
           fills-item all here.place here.depth (contents term value) (record { name = here.name; begun = begun; shown = Some (leaves.Opened, contents term value) }) _ h
           (subst (λ (d : ℕ). Fills all begun.next (d + 1) (contents term value) (item_items levels (all_of all) (here_in (field_path here.name (held_name held)) begun) (held_type held) (contents term value))) h.depth_is
           (fill-held (here_in (field_path here.name (held_name held)) begun) held (contents term value) o.nested (octets-of term value f o.octet_string) o.is
-          (subst (λ (p : ℕ). AreAt all p (contents term value)) (sym h.next) (at-rest all here.place (head_octets begun) (contents term value) h.lie))))
+          (inner-at all here begun (contents term value) h)))
 
   -- ---- fields
   -- an item of a container, and what follows it
@@ -168,16 +191,6 @@ module _ (all : List ℕ) (levels : ℕ) (short : length all < 2 ^ 32) (fill : F
       (omega (arith, h, length-append (der term value) (flat_map (der term) values), der_begins term value)) (at-rest all here.place (der term value) (flat_map (der term) values) at)))
 
   -- ---- contents
-  inner-at : (here : Here) (begun : Begun) (octets : List ℕ) → IsHeaded all here.place here.depth octets begun → AreAt all begun.next octets
-  inner-at here begun octets h = subst (λ (p : ℕ). AreAt all p octets) (sym h.next) (at-rest all here.place (head_octets begun) octets h.lie)
-
-  container-fill : (here : Here) (begun : Begun) (octets : List ℕ) (inner : ℕ → Items) → IsHeaded all here.place here.depth octets begun → Fills all begun.next (begun.depth + 1) octets (inner (length octets))
-      → Fills all here.place here.depth (head_octets begun ++ octets) (after_item (container here.name begun) (inner (size_of begun.size)))
-  container-fill here begun octets inner h f =
-      fills-item all here.place here.depth octets (container here.name begun) (inner (size_of begun.size)) h
-      (subst (λ (d : ℕ). Fills all begun.next (d + 1) octets (inner (size_of begun.size))) h.depth_is
-      (subst (λ (n : ℕ). Fills all begun.next (begun.depth + 1) octets (inner n)) (sym (ap size_of h.size)) f))
-
   contents-fill : (here : Here) (begun : Begun) (last : Tag) (shape : Shape) (names : Option Names) (term : Term) (value : Value term) → is_plain term ≡ true → is_of (last ∷ []) shape names term ≡ true → shape_nests (nests levels) shape ≡ true → is_unambiguous term ≡ true → Fits term value
       → IsHeaded all here.place here.depth (contents term value) begun
       → Fills all here.place here.depth (head_octets begun ++ contents term value) (contents_items (item_items levels (all_of all)) (all_of all) here shape begun (contents term value))
@@ -189,11 +202,11 @@ module _ (all : List ℕ) (levels : ℕ) (short : length all < 2 ^ 32) (fill : F
   contents-fill here begun last (shapes.Leaf leaf) names (Sequence fields) value p is n clear f h = leaf-fill here begun leaf (Sequence fields) value h n (and_parts _ _ is).1 f
   contents-fill here begun last (shapes.Leaf leaf) names (SequenceOf empty term) value p is n clear f h = leaf-fill here begun leaf (SequenceOf empty term) value h n (and_parts _ _ is).1 f
   contents-fill here begun last (shapes.Sequence sequence) names (Sequence fields) value p is n clear f h =
-      container-fill here begun (der_of_fields fields value) (λ room. field_items (item_items levels (all_of all)) (here_in here.name begun) (fields_of sequence) room (der_of_fields fields value)) h
-      (fields-fill (fields_of sequence) names 0 fields value (here_in here.name begun) n (and_parts _ _ is).1 clear f (inner-at here begun (der_of_fields fields value) h))
+      container-fill all here begun (der_of_fields fields value) (λ room. field_items (item_items levels (all_of all)) (here_in here.name begun) (fields_of sequence) room (der_of_fields fields value)) h
+      (fields-fill (fields_of sequence) names 0 fields value (here_in here.name begun) n (and_parts _ _ is).1 clear f (inner-at all here begun (der_of_fields fields value) h))
   contents-fill here begun last (shapes.List list) names (SequenceOf empty term) value p is n clear f h =
-      container-fill here begun (flat_map (der term) value) (λ room. element_items (item_items levels (all_of all)) (item_of list) (length (flat_map (der term) value)) 0 (here_in here.name begun) room (flat_map (der term) value)) h
-      (elements-fill (item_of list) names term value (length (flat_map (der term) value)) 0 (here_in here.name begun) n (and_parts _ _ is).1 clear f.1 (omega arith) (inner-at here begun (flat_map (der term) value) h))
+      container-fill all here begun (flat_map (der term) value) (λ room. element_items (item_items levels (all_of all)) (item_of list) (length (flat_map (der term) value)) 0 (here_in here.name begun) room (flat_map (der term) value)) h
+      (elements-fill (item_of list) names term value (length (flat_map (der term) value)) 0 (here_in here.name begun) n (and_parts _ _ is).1 clear f.1 (omega arith) (inner-at all here begun (flat_map (der term) value) h))
   contents-fill here begun last shape names (Integer low high) value p is n clear f h = absurd cc
   contents-fill here begun last shape names (Text greatest) value p is n clear f h = absurd cc
   contents-fill here begun last shape names Octets value p is n clear f h = absurd cc
@@ -213,9 +226,5 @@ module _ (all : List ℕ) (levels : ℕ) (short : length all < 2 ^ 32) (fill : F
     where
       by : shape_nests (nests levels) of.shape ≡ true → Inside (length all) (begun_here here) of.tags of.shape names term value more → Fills all here.place here.depth (der term value) (item_items (suc levels) (all_of all) here of (der term value ++ more))
       by s i =
-          let heads : head_octets i.reads.done ≡ flat i.reads.heads = ap flat i.reads.added in
-          let form : der term value ≡ head_octets i.reads.done ++ contents i.inner i.inner_value = i.reads.form ∙ ap (λ h. h ++ contents i.inner i.inner_value) (sym heads) in
-          fills-of all here.place here.depth (der term value) _ _ form
-          (fills-same all here.place here.depth _ _ _ (ap (λ h. of_headed here.name h (contents_items (item_items levels (all_of all)) (all_of all) here of.shape)) i.reads.is)
-          (contents-fill here i.reads.done i.last of.shape names i.inner i.inner_value i.plain i.is s i.clear i.fits
-          (record { at = i.reads.at; depth_is = i.reads.depth; next = i.reads.next ∙ ap (λ h. here.place + length h) (sym heads); size = i.reads.size; lie = subst (AreAt all here.place) form at })))
+          reads-fill all levels here of (der term value) more (contents i.inner i.inner_value) i.reads at
+          (λ h. contents-fill here i.reads.done i.last of.shape names i.inner i.inner_value i.plain i.is s i.clear i.fits h)

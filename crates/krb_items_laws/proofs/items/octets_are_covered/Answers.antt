@@ -1,4 +1,8 @@
-use Rattle.krb_items_laws.proofs.ReadHeads.{reads-more}
-use Rattle.krb_items_laws.proofs.Filling.{covered-rest}
-use Rattle.krb_items_laws.proofs.Types.{count-der}
-use Rattle.krb_items_laws.proofs.Covering.{fill-item}
+use Rattle.krb_items_laws.proofs.Accepted.{messages-are-covered, tickets-are-covered}
+use Rattle.krb_items_laws.proofs.items.octets_are_covered.Goals as goal
+
+pub returns-clause-message : goal.returns-clause-message
+returns-clause-message c = messages-are-covered
+
+pub returns-clause-ticket : goal.returns-clause-ticket
+returns-clause-ticket c = tickets-are-covered
