@@ -1,6 +1,6 @@
 -- The items of messages and Tickets that are accepted are all of their octets.
-use Rattle.std.proofs.Common.{◌≡◌, ℕ, zero, ◌+◌, ◌^◌, ◌<◌, ◌≤◌, true, false, List, [], ◌∷◌, ◌++◌, length, Option, Some, None, codes, refl, sym, ◌∙◌, ap, subst, arith, append-nil}
-use Rattle.krb_der.specs.Octets.{AreOctets, item as item-of}
+use Rattle.std.proofs.Common.{◌≡◌, ℕ, zero, suc, ◌+◌, ◌^◌, ◌<◌, ◌≤◌, true, false, List, [], ◌∷◌, ◌++◌, length, Option, Some, None, codes, refl, sym, ◌∙◌, ap, subst, arith, append-nil, le-ltb}
+use Rattle.krb_der.specs.Octets.{AreOctets, item as item-of, number}
 use Rattle.krb_der.specs.declared.profile.Profile.{Profile}
 use Rattle.krb_der.specs.declared.profile.Profile.TheVariants as profiles
 use Rattle.krb_judge.specs.Parses.{refusal_of, ticket_refusal}
@@ -17,13 +17,16 @@ use Rattle.krb_msg.specs.declared.message.Kind.TheVariants as kind
 use Rattle.krb_msg.specs.inner.Values.{contents, der_is}
 use Rattle.krb_msg.proofs.Grammars.{all_is_decided, whole_is_one_of}
 use Rattle.krb_msg.proofs.KindLaws.{kind_of_one_of}
-use Rattle.krb_items.specs.Items.{Here, Items, all_items, here_at, kind_items, message_items, most_levels}
+use Rattle.krb_source.specs.declared.layer.Layer.TheVariants.{Frame}
+use Rattle.krb_items.specs.Heads.{Begun, begun_at, with_head}
+use Rattle.krb_items.specs.Items.{Here, Items, all_items, after_item, container, frame_by, frame_items, here_at, kind_items, message_items, most_levels}
 use Rattle.krb_items.specs.Shapes.{ItemType, message_of, ticket}
 use Rattle.krb_items.specs.Terms.{is_of}
 use Rattle.krb_items.specs.declared.reaching.Lies.TheVariants as lies
-use Rattle.krb_items_laws.specs.Covers.{AreInOrder, Covers, MessagesAreCovered, TicketsAreCovered, whole_items}
+use Rattle.krb_items.specs.declared.tag.Tag.TheVariants as tags
+use Rattle.krb_items_laws.specs.Covers.{AreInOrder, Covers, FramesAreCovered, MessagesAreCovered, TicketsAreCovered, whole_items}
 use Rattle.krb_items_laws.proofs.Covering.{all_of}
-use Rattle.krb_items_laws.proofs.Filling.{AreAt, Fills, covered-rest, fills-of, fills-same}
+use Rattle.krb_items_laws.proofs.Filling.{AreAt, Fills, IsHeaded, at-rest, covered-rest, fills-item, fills-of, fills-same}
 use Rattle.krb_items_laws.proofs.Holding.{IsAccepted, accepted, accepted-value, fills, whole-verdict}
 use Rattle.krb_items_laws.proofs.Types.{nests}
 
@@ -117,3 +120,16 @@ tickets-are-covered profile octets a e =
     covers octets (whole_items lies.Ticket octets)
     (der-fill octets (omega (arith, is.short)) (here_at [] (codes "Ticket") 0 0) ticket (profile_term profile false ticket_term) octets refl (ticket-of profile).0 (ticket-of profile).1
     (accepted-value (profile_term profile false ticket_term) octets a is) (all-at octets))
+
+-- ---- frames
+abbrev frame-begun : (four : List ℕ) (size : ℕ) → Begun
+frame-begun four size = with_head (begun_at (Frame ∷ []) 0 0) tags.Frame four (Some size)
+
+pub frames-are-covered : FramesAreCovered
+frames-are-covered profile a b c d message octets size e =
+    covers (a ∷ b ∷ c ∷ d ∷ message) (whole_items lies.Framed (a ∷ b ∷ c ∷ d ∷ message))
+    (fills-same (a ∷ b ∷ c ∷ d ∷ message) 0 0 (a ∷ b ∷ c ∷ d ∷ message) _ _ (rw (le-ltb (length (a ∷ b ∷ c ∷ d ∷ message)) 4 (omega arith)) refl)
+    (fills-item (a ∷ b ∷ c ∷ d ∷ message) 0 0 message (container (codes "frame") (frame-begun (a ∷ b ∷ c ∷ d ∷ []) (number (a ∷ b ∷ c ∷ d ∷ [])))) _
+    (record { at = refl; depth_is = refl; next = refl; size = ap Some size; lie = all-at (a ∷ b ∷ c ∷ d ∷ message) })
+    (message-fill (a ∷ b ∷ c ∷ d ∷ message) (omega (arith, (accepted (judgement profile) message e).short)) profile (here_at (Frame ∷ []) [] 4 1) message octets e
+    (at-rest (a ∷ b ∷ c ∷ d ∷ message) 0 (a ∷ b ∷ c ∷ d ∷ []) message (all-at (a ∷ b ∷ c ∷ d ∷ message))))))

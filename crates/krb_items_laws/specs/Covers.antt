@@ -1,7 +1,7 @@
 -- The law that items are all of the octets that are accepted.
 use Rattle.std.specs.Prelude.{ℕ, ◌≡◌, ◌+◌, Bool, false, nat_lt, if◌then◌else◌, List, [], ◌∷◌, ◌++◌, length, take, drop, None}
 use Rattle.std.specs.List.{flat_map}
-use Rattle.krb_der.specs.Octets.{AreOctets}
+use Rattle.krb_der.specs.Octets.{AreOctets, number}
 use Rattle.krb_der.specs.declared.profile.Profile.{Profile}
 use Rattle.krb_judge.specs.Parses.{refusal_of, ticket_refusal}
 use Rattle.krb_items.specs.Heads.{Begun, size_of}
@@ -62,3 +62,8 @@ MessagesAreCovered = (profile : Profile) (octets : List ℕ) → AreOctets octet
 
 abbrev pub TicketsAreCovered : Type 0
 TicketsAreCovered = (profile : Profile) (octets : List ℕ) → AreOctets octets → ticket_refusal profile octets ≡ None → Covers octets (whole_items lies.Ticket octets)
+
+-- So are those of a frame, whose first four octets say how many the message has (RFC 4120, 7.2.2).
+abbrev pub FramesAreCovered : Type 0
+FramesAreCovered = (profile : Profile) (a b c d : ℕ) (message : List ℕ) → AreOctets message → number (a ∷ b ∷ c ∷ d ∷ []) ≡ length message → refusal_of profile message ≡ None
+    → Covers (a ∷ b ∷ c ∷ d ∷ message) (whole_items lies.Framed (a ∷ b ∷ c ∷ d ∷ message))

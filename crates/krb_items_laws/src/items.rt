@@ -1,10 +1,12 @@
 //! Laws of what `krb_items` lists. Each is the contract of a function that does nothing.
 
-ghost use Rattle.krb_items_laws.specs.Covers.{MessagesAreCovered, TicketsAreCovered};
+ghost use Rattle.krb_items_laws.specs.Covers.{FramesAreCovered, MessagesAreCovered, TicketsAreCovered};
 
-/// Of a message and of a Ticket that are accepted, the heads of each item, and of each in which there is
-/// none its contents, in the order of the list, are its octets.
+/// Of a message, a Ticket and a frame that are accepted, the heads of each item, and of each in which
+/// there is none its contents, in the order of the list, are its octets: an item begins where the one
+/// before it ends. What is opened is among them.
 pub fn octets_are_covered()
     ensures message { MessagesAreCovered }
     ensures ticket { TicketsAreCovered }
+    ensures frame { FramesAreCovered }
 {}
