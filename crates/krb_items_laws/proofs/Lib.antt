@@ -5,3 +5,5 @@ pub mod Types
 pub mod Covering
 pub mod Holding
 pub mod Accepted
+pub mod OctetItems
+pub mod PrintedItems
