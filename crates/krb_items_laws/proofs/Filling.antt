@@ -129,7 +129,7 @@ fills-item all place depth contents item inner h f = record {
   follows = λ others s o. (
     begins all place depth contents item h,
     inner-order all item depth (length contents) inner.items others h.depth_is (size-is all place depth contents item.begun h) f.first s
-    (subst (λ (p : ℕ). AreInOrder all p others) (after-is all place depth contents item.begun h) o) f.follows,
+        (subst (λ (p : ℕ). AreInOrder all p others) (after-is all place depth contents item.begun h) o) f.follows,
   );
 }
 

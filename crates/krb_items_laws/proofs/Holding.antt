@@ -99,9 +99,9 @@ flag-fill : (all : List ℕ) (levels : ℕ) → length all < 2 ^ 32 → (here : 
 flag-fill all levels short here octet at =
     let within : here.place + 5 ≤ length all = at-within all here.place (flag-octets octet) at in
     let inner : Reads (length all) (with_head (begun_here here) (tags.Context 0) (head_of 0xA0 3) (Some 3)) (tags.Boolean ∷ []) (item 0x01 (octet ∷ [])) [] (octet ∷ []) =
-        reads-last (length all) (with_head (begun_here here) (tags.Context 0) (head_of 0xA0 3) (Some 3)) tags.Boolean (octet ∷ []) [] (omega arith) (omega (arith, within)) in
+    reads-last (length all) (with_head (begun_here here) (tags.Context 0) (head_of 0xA0 3) (Some 3)) tags.Boolean (octet ∷ []) [] (omega arith) (omega (arith, within)) in
     let reads : Reads (length all) (begun_here here) (tags.Context 0 ∷ tags.Boolean ∷ []) (flag-octets octet) [] (octet ∷ []) =
-        reads-more (length all) (begun_here here) (tags.Context 0) (tags.Boolean ∷ []) (item 0x01 (octet ∷ [])) [] (octet ∷ []) (omega arith) (omega (arith, within)) inner in
+    reads-more (length all) (begun_here here) (tags.Context 0) (tags.Boolean ∷ []) (item 0x01 (octet ∷ [])) [] (octet ∷ []) (omega arith) (omega (arith, within)) inner in
     reads-fill all levels here (in_tag 0 truth) (flag-octets octet) [] (octet ∷ []) reads at
     (λ h. fills-same all here.place here.depth _ _ _ (leaf-enough all levels here reads.done leaves.Truth (octet ∷ []) h)
     (fills-leaf all here.place here.depth (octet ∷ []) (record { name = here.name; begun = reads.done; shown = Some (leaves.Truth, octet ∷ []) }) h))
@@ -114,7 +114,7 @@ request-fill : (all : List ℕ) (levels : ℕ) → length all < 2 ^ 32 → (here
 request-fill all levels short here octet at =
     let within : here.place + 7 ≤ length all = at-within all here.place (request-octets octet) at in
     let reads : Reads (length all) (begun_here here) (tags.Sequence ∷ []) (request-octets octet) [] (flag-octets octet) =
-        reads-last (length all) (begun_here here) tags.Sequence (flag-octets octet) [] (omega arith) (omega (arith, within)) in
+    reads-last (length all) (begun_here here) tags.Sequence (flag-octets octet) [] (omega arith) (omega (arith, within)) in
     reads-fill all (suc levels) here (held_type helds.PacRequest) (request-octets octet) [] (flag-octets octet) reads at
     (λ h. container-fill all here reads.done (flag-octets octet) (λ room. field_items (item_items (suc levels) (all_of all)) (here_in here.name reads.done) (fields_of sequences.PacRequest) room (flag-octets octet)) h
     (fills-then all reads.done.next (reads.done.depth + 1) (flag-octets octet) [] _ _
