@@ -7,3 +7,4 @@ pub mod Holding
 pub mod Accepted
 pub mod OctetItems
 pub mod PrintedItems
+pub mod PrintedListings

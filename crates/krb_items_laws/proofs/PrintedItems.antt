@@ -34,7 +34,8 @@ use Rattle.krb_items.specs.declared.shape.Leaf.{Leaf}
 use Rattle.krb_items.specs.declared.shape.Leaf.TheVariants as leaves
 use Rattle.krb_items.specs.declared.tag.Tag.{Tag}
 use Rattle.krb_items.specs.declared.tag.Tag.TheVariants as tags
-use Rattle.krb_items_laws.specs.Printed.{ArePrintedLines, ItemsArePrinted, label_in}
+use Rattle.krb_tool_laws.specs.Listings.{ArePrintedLines}
+use Rattle.krb_items_laws.specs.Printed.{ItemsArePrinted, label_in}
 use Rattle.krb_items_laws.proofs.OctetItems.{ArePlain, CutPlain, IsPlain, IsPlainPart, NamePrints, ShownOctets, items-plain}
 
 -- ---- values
@@ -199,16 +200,19 @@ fault-prints base context refusal shown name begun r n h =
     r.last (subst (λ f. Prints (closing f)) (sym r.form) (ends base))
 
 -- ---- what is listed
-one-line-more : (text line : List ℕ) → ArePrintedLines text → IsOneLine line → ArePrintedLines (text ++ line)
-one-line-more text line t l = (t.0 ++ line ∷ [], all t.0 t.1, ap (λ x. x ++ line) t.2 ∙ sym (joined-lines t.0))
+pub lines-append : (text other : List ℕ) → ArePrintedLines text → ArePrintedLines other → ArePrintedLines (text ++ other)
+lines-append text other t o = (t.0 ++ o.0, all t.0 t.1, (λ i. t.2 i ++ o.2 i) ∙ sym (both t.0))
   where
-    all : (lines : List (List ℕ)) → AllByRecursion IsOneLine lines → AllByRecursion IsOneLine (lines ++ line ∷ [])
-    all [] a = (l, tt)
+    all : (lines : List (List ℕ)) → AllByRecursion IsPrintable lines → AllByRecursion IsPrintable (lines ++ o.0)
+    all [] a = o.1
     all (first ∷ lines) a = (a.0, all lines a.1)
 
-    joined-lines : (lines : List (List ℕ)) → flat_map (λ (line : List ℕ). line) (lines ++ line ∷ []) ≡ flat_map (λ (line : List ℕ). line) lines ++ line
-    joined-lines [] = append-nil line
-    joined-lines (first ∷ lines) = ap (λ x. first ++ x) (joined-lines lines) ∙ sym (append_assoc first (flat_map (λ (line : List ℕ). line) lines) line)
+    both : (lines : List (List ℕ)) → flat_map (λ (line : List ℕ). line ++ line_feed) (lines ++ o.0) ≡ flat_map (λ (line : List ℕ). line ++ line_feed) lines ++ flat_map (λ (line : List ℕ). line ++ line_feed) o.0
+    both [] = refl
+    both (first ∷ lines) = ap (λ x. (first ++ line_feed) ++ x) (both lines) ∙ sym (append_assoc (first ++ line_feed) (flat_map (λ (line : List ℕ). line ++ line_feed) lines) (flat_map (λ (line : List ℕ). line ++ line_feed) o.0))
+
+pub one-line-more : (text line : List ℕ) → ArePrintedLines text → IsOneLine line → ArePrintedLines (text ++ line)
+one-line-more text line t l = lines-append text line t (l.0 ∷ [], (l.1, tt), l.2 ∙ sym (append-nil (l.0 ++ line_feed)))
 
 items-listed : (base : Base) (context : Context) (items : List Item) (listed : Listed) → IsRound base context → AllByRecursion IsPlain items → ArePrintedLines listed.text → ArePrintedLines (listed_items context items listed).text
 items-listed base context [] listed r a t = t

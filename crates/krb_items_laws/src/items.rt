@@ -1,7 +1,9 @@
-//! Laws of what `krb_items` lists. Each is the contract of a function that does nothing.
+//! Laws of what `krbls items` lists. Each is the contract of a function that does nothing.
 
 ghost use Rattle.krb_items_laws.specs.Covers.{FramesAreCovered, MessagesAreCovered, TicketsAreCovered};
-ghost use Rattle.krb_items_laws.specs.Printed.{ItemsArePrinted};
+ghost use Rattle.krb_items_laws.specs.Printed.{ItemListingsArePrinted, ItemsArePrinted};
+
+use krb_tool_laws::listings::messages_are_lines;
 
 /// Of a message, a Ticket and a frame that are accepted, the heads of each item, and of each in which
 /// there is none its contents, in the order of the list, are its octets: an item begins where the one
@@ -12,7 +14,12 @@ pub fn octets_are_covered()
     ensures frame { FramesAreCovered }
 {}
 
-/// What is listed of any octets, items and what is at fault, is lines of printable ASCII, in each form.
+/// Whatever an input spells, and whatever octets name its file, each line of the listing of its items is
+/// one line of printable ASCII, in each form: those of items and of faults, that of the first length if it
+/// is believed, and the last one.
 pub fn items_are_printed()
-    ensures { ItemsArePrinted }
-{}
+    ensures items { ItemsArePrinted }
+    ensures listing { ItemListingsArePrinted }
+{
+    messages_are_lines();
+}
