@@ -1,5 +1,5 @@
 -- Frames that are added one after another.
-use Rattle.std.proofs.Common.{◌≡◌, ℕ, suc, zero, ◌+◌, ◌<◌, Bool, true, false, ◌&&◌, List, [], ◌++◌, length, Option, Some, None, refl, sym, ◌∙◌, ap, subst, append-nil, append_assoc, arith}
+use Rattle.std.proofs.Common.{◌≡◌, ℕ, suc, zero, ◌+◌, ◌<◌, Bool, true, false, ◌&&◌, List, ◌++◌, length, Option, Some, None, refl, sym, ◌∙◌, ap, subst, append-nil, append_assoc, arith}
 use Rattle.krb_der.specs.declared.profile.Profile.{Profile}
 use Rattle.krb_c.specs.Spans.{Spanned, both, frame_at, frames_from, nothing, stream_spans}
 use Rattle.krb_c.specs.inner.Adding.{Adds, AddsFirst, IsWithin, rest_at}
@@ -16,7 +16,7 @@ and-assoc false b c = refl
 pub both-nothing : (a : Spanned) → both a nothing ≡ a
 both-nothing a = λ i. record { numbers = append-nil a.numbers i; clean = and-true a.clean i }
 
-both-assoc : (a b c : Spanned) → both (both a b) c ≡ both a (both b c)
+pub both-assoc : (a b c : Spanned) → both (both a b) c ≡ both a (both b c)
 both-assoc a b c = λ i. record { numbers = append_assoc a.numbers b.numbers c.numbers i; clean = and-assoc a.clean b.clean c.clean i }
 
 pub adds-none : (old : Spans) → Adds nothing old old

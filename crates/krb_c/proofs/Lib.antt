@@ -1,4 +1,9 @@
 mod Frames
 mod Slices
 mod Framed
+mod Items
+mod Files
 mod Sorted
+mod Worded
+mod Told
+mod Within

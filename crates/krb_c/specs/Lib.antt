@@ -6,4 +6,6 @@ pub mod Paths
 pub mod Turned
 pub mod Rows
 pub mod Spans
+pub mod FileSpans
+pub mod Spanned
 pub mod inner

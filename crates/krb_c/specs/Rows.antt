@@ -1,9 +1,8 @@
 -- What C is given of records in rows of cells: by names, of the listing of a kind.
-use Rattle.std.specs.Prelude.{ℕ, ◌≡◌, ◌==◌, ◌-◌, ◌++◌, Bool, false, if◌then◌else◌, List, [], ◌∷◌, length, take, drop, Option}
+use Rattle.std.specs.Prelude.{ℕ, ◌≡◌, ◌==◌, ◌-◌, ◌++◌, Bool, false, if◌then◌else◌, List, [], ◌∷◌, length, take, drop}
 use Rattle.krb_choice.specs.Choices.{Choice}
 use Rattle.krb_choice.specs.Wanted.{choice_form}
 use Rattle.krb_choosing.specs.Listings.{chosen_listing, told_listing}
-use Rattle.krb_der.specs.declared.profile.Profile.{Profile}
 use Rattle.krb_fields.specs.declared.shape.Listing.{Listing}
 use Rattle.krb_fields.specs.declared.shape.Listing.TheVariants as listing
 use Rattle.krb_input.specs.Sources.{command_for}
@@ -15,6 +14,7 @@ use Rattle.krb_record.specs.declared.form.Form.{Form}
 use Rattle.krb_run.specs.declared.run.RunEnd.{RunEnd}
 use Rattle.krb_run.specs.declared.run.RunEnd.TheVariants as run
 use Rattle.krb_words.specs.Chosen.{AreRowsOf, SaysNoRows}
+use Rattle.krb_c.specs.declared.rows.Options.{Options}
 use Rattle.krb_c.specs.Listed.{IsCaptureListing, IsCcacheListing, IsKeytabListing, IsMessageListing, IsStreamListing}
 
 -- ---- numbers
@@ -39,20 +39,12 @@ listings_of number =
     else listing.Stream ∷ listing.Message ∷ listing.Keytab ∷ listing.Ccache ∷ listing.Capture ∷ []))))
 
 -- ---- listings
--- how octets are listed: the number of each is as in the call of the listing
-pub record Options : Type 0 where
-  pub profile : Profile
-  pub limit : ℕ
-  pub goes_on : Bool
-  pub now : Option ℕ
-  pub port : ℕ
-
 -- the listing of a kind, and how it ends
 abbrev pub IsListingOf : SourceKind → Options → Form → (octets text : List ℕ) → RunEnd → Type 0
 IsListingOf kind.Stream options form octets text end = IsStreamListing options.goes_on form options.profile options.limit octets text end
 IsListingOf kind.Message options form octets text end = IsMessageListing form options.profile octets text end
 IsListingOf kind.Keytab options form octets text end = IsKeytabListing form octets text end
-IsListingOf kind.Ccache options form octets text end = IsCcacheListing form options.now octets text end
+IsListingOf kind.Ccache options form octets text end = IsCcacheListing form options.time octets text end
 IsListingOf kind.Capture options form octets text end = IsCaptureListing form options.profile options.limit options.port octets text end
 
 -- a stream alone may go on after a refusal, so that none ends it

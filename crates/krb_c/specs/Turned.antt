@@ -1,10 +1,11 @@
 -- What C is given of messages as lines of JSON, and of lines as messages: what the commands do.
-use Rattle.std.specs.Prelude.{ℕ, ◌≡◌, ◌==◌, ◌++◌, Bool, true, false, if◌then◌else◌, List, [], ◌∷◌, codes, Option, Some}
-use Rattle.std.specs.Option.{unwrap_or}
+use Rattle.std.specs.Prelude.{ℕ, ◌≡◌, ◌==◌, ◌++◌, Bool, true, false, if◌then◌else◌, List, [], ◌∷◌, codes, flat_map, Some}
 use Rattle.krb_der.specs.declared.profile.Profile.{Profile}
 use Rattle.krb_input.specs.Sources.{command_for}
 use Rattle.krb_input.specs.declared.source_kind.SourceKind.{SourceKind}
 use Rattle.krb_input.specs.declared.source_kind.SourceKind.TheVariants as kind
+use Rattle.krb_capture_run.specs.Decoded.{decoded_capture}
+use Rattle.krb_run.specs.Records.{text_of}
 use Rattle.krb_run.specs.declared.run.RunEnd.{RunEnd}
 use Rattle.krb_run.specs.declared.run.RunEnd.TheVariants as run
 use Rattle.krb_words.specs.declared.words.Framing.{Framing}
@@ -18,7 +19,9 @@ use Rattle.krb_decode.specs.Caches.{decoded_cache}
 use Rattle.krb_decode.specs.Given.{decoded_given}
 use Rattle.krb_decode.specs.Streams.{DecodesStream}
 use Rattle.krb_decode.specs.Hints.{keytab_text}
+use Rattle.krb_decode.specs.Sorted.{begun_after, is_of_message, lines_after, message_lines}
 use Rattle.krb_record.specs.Text.{line_feed}
+use Rattle.krb_c.specs.declared.turning.Options.{Options}
 
 -- 0 is to write each message after its length, and any other number one message without it
 abbrev pub framing_of : ℕ → Framing
@@ -54,36 +57,16 @@ told_end run.RefusedAtOnce said = run.RefusedAtOnce
 told_end end [] = run.Clean
 told_end end (octet ∷ said) = run.Refused
 
--- ---- one text, of lines of messages and of lines that are said
-pub record Texts : Type 0 where
-  pub lines : List ℕ
-  pub said : List ℕ
+-- ---- one text, of lines of messages and of others, which are said
+abbrev pub said_of : List ℕ → List ℕ
+said_of line = if is_of_message line then [] else line
 
--- an octet of a line of a message, or of one that is said
-abbrev pub of_lines : (of_message : Bool) → ℕ → List ℕ
-of_lines true octet = octet ∷ []
-of_lines false octet = []
-
-abbrev pub of_said : (of_message : Bool) → ℕ → List ℕ
-of_said true octet = []
-of_said false octet = octet ∷ []
-
-abbrev pub octet_and : (of_message : Bool) → ℕ → Texts → Texts
-octet_and of_message octet others = record { lines = of_lines of_message octet ++ others.lines; said = of_said of_message octet ++ others.said }
-
--- a line is of a message if it begins with a brace (7B); it is known of one that has begun, which a line feed ends
-abbrev pub is_of_message : Option Bool → ℕ → Bool
-is_of_message begun octet = unwrap_or begun (octet == 0x7B)
-
-abbrev pub begun_after : (of_message : Bool) → ℕ → Option Bool
-begun_after of_message octet = if octet == 10 then None else Some of_message
-
-abbrev pub sorted : (begun : Option Bool) → List ℕ → Texts
-sorted begun [] = record { lines = []; said = [] }
-sorted begun (octet ∷ text) = octet_and (is_of_message begun octet) octet (sorted (begun_after (is_of_message begun octet) octet) text)
+-- each other line, and of one that has not ended what has come
+abbrev pub said_lines : List ℕ → List ℕ
+said_lines text = flat_map said_of (lines_after [] text) ++ said_of (begun_after [] text)
 
 abbrev pub IsSorted : (text : List ℕ) → RunEnd → (lines said : List ℕ) → RunEnd → Type 0
-IsSorted text ended lines said end = (lines ≡ (sorted None text).lines) × (said ≡ (sorted None text).said) × (end ≡ told_end ended said)
+IsSorted text ended lines said end = (lines ≡ message_lines text) × (said ≡ said_lines text) × (end ≡ told_end ended said)
 
 -- the lines of a stream that goes on
 pub record IsStreamDecodedOn (profile : Profile) (limit : ℕ) (octets lines said : List ℕ) (end : RunEnd) : Type 0 where
@@ -93,28 +76,22 @@ pub record IsStreamDecodedOn (profile : Profile) (limit : ℕ) (octets lines sai
   pub decoded : DecodesStream profile limit (Some octets) (Some left) (Some []) (Some text) ended
   pub is : IsSorted text ended lines said end
 
--- Those of a capture are some text. Which, is not said here.
-abbrev pub IsCaptureDecoded : (lines said : List ℕ) → RunEnd → Type 0
-IsCaptureDecoded lines said end = (text : List ℕ) × (ended : RunEnd) × IsSorted text ended lines said end
-
--- ---- which of the messages of octets are decoded
-pub record Options : Type 0 where
-  pub profile : Profile
-  pub limit : ℕ
-  pub goes_on : Bool
-  pub port : ℕ
-  pub packet : Option ℕ
+-- ---- by what octets are, and which of their messages are decoded
+-- those of a capture, or of one of its packets
+abbrev pub IsCaptureDecoded : Options → (octets lines said : List ℕ) → RunEnd → Type 0
+IsCaptureDecoded options octets lines said end =
+    let decoded = decoded_capture options.profile options.limit options.port options.packet octets in
+    IsSorted (text_of decoded) decoded.end lines said end
 
 abbrev pub IsStream : (goes_on : Bool) → Profile → (limit : ℕ) → (octets lines said : List ℕ) → RunEnd → Type 0
 IsStream false profile limit octets lines said end = IsStreamDecoded profile limit octets lines said end
 IsStream true profile limit octets lines said end = IsStreamDecodedOn profile limit octets lines said end
 
--- by what octets are
 abbrev pub IsDecodedBy : SourceKind → Options → (octets lines said : List ℕ) → RunEnd → Type 0
 IsDecodedBy kind.Message options octets lines said end = IsDecodedAs (decoded_given options.profile octets) lines said end
 IsDecodedBy kind.Keytab options octets lines said end = IsKeytabTold lines said end
 IsDecodedBy kind.Ccache options octets lines said end = IsDecodedAs (decoded_cache octets) lines said end
-IsDecodedBy kind.Capture options octets lines said end = IsCaptureDecoded lines said end
+IsDecodedBy kind.Capture options octets lines said end = IsCaptureDecoded options octets lines said end
 IsDecodedBy kind.Stream options octets lines said end = IsStream options.goes_on options.profile options.limit octets lines said end
 
 abbrev pub IsDecoded : Options → (octets lines said : List ℕ) → RunEnd → Type 0

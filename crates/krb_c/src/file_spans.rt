@@ -1,5 +1,13 @@
 //! Where the records lie of keytabs and credential caches.
 
+ghost use Rattle.std.specs.Prelude.{◌≡◌, IfOk, OnOk};
+ghost use Rattle.std.specs.Option.{is_some};
+ghost use Rattle.krb_ccache.specs.Reading.{next_at, one_enctype};
+ghost use Rattle.krb_keytab.specs.Reading.{record_at};
+ghost use Rattle.krb_c.specs.FileSpans.{ccache_spans, is_record, keytab_spans, principal_place};
+ghost use Rattle.krb_c.specs.inner.Adding.{Adds};
+ghost use Rattle.krb_c.specs.inner.Items.{AddsFault, AddsItem};
+
 use crate::spans::Spans;
 use krb_ccache::{OneEnctype, read_credential, read_start};
 use krb_file::{FieldReader, FileFault, Limit, StreamReader};
@@ -12,7 +20,9 @@ use std::io::ErrorKind;
 const LENGTH_OCTETS: u64 = 4;
 
 /// Adds what is refused of a file, from where the part begins that is at fault up to the end.
-fn put_fault(spans: &mut Spans, fault: FileFault, all: usize) -> Result<(), RunFault> {
+fn put_fault(spans: &mut Spans, fault: FileFault, all: usize) -> Result<(), RunFault>
+    ensures { OnOk result (AddsFault fault all spans.old spans.new) }
+{
     match fault {
         FileFault::Refused(refusal) => {
             spans.put_refused(refusal.begin as usize, all)?;
@@ -29,18 +39,19 @@ fn put_record(
     spans: &mut Spans,
     reader: &mut StreamReader<&[u8]>,
     all: usize,
-) -> Result<bool, RunFault> {
+) -> Result<bool, RunFault>
+    ensures { IfOk result (AddsItem record_at is_record 4 all reader.old reader.new spans.old spans.new) }
+{
     let begin = reader.place();
     match read_record(alloc, reader) {
         Ok(Next::Item(_record)) => {
-            spans.put(
-                begin.saturating_add(LENGTH_OCTETS) as usize,
-                reader.place() as usize,
-            )?;
+            let end = reader.place();
+            spans.put((begin + LENGTH_OCTETS) as usize, end as usize)?;
             Ok(true)
         }
         Ok(Next::Done(_stop)) => {
-            spans.put(reader.place() as usize, reader.place() as usize)?;
+            let end = reader.place() as usize;
+            spans.put(end, end)?;
             Ok(false)
         }
         Err(fault) => {
@@ -51,13 +62,15 @@ fn put_record(
 }
 
 /// Adds the entries and the holes of a keytab, each after its length, and where they end.
-pub(crate) fn put_keytab(alloc: Global, spans: &mut Spans, file: &[u8]) -> Result<(), RunFault> {
+pub(crate) fn put_keytab(alloc: Global, spans: &mut Spans, file: &[u8]) -> Result<(), RunFault>
+    ensures { OnOk result (Adds (keytab_spans file.now) spans.old spans.new) }
+{
     let all = file.len();
     let mut reader = StreamReader::new(file, Limit::DEFAULT);
     if let Err(fault) = reader.version(&[2]) {
         return put_fault(spans, fault, all);
     }
-    for _ in 0..u64::MAX {
+    'records: for _index in 0..all + 1 {
         if !put_record(alloc, spans, &mut reader, all)? {
             return Ok(());
         }
@@ -67,10 +80,12 @@ pub(crate) fn put_keytab(alloc: Global, spans: &mut Spans, file: &[u8]) -> Resul
 
 /// Returns where the default principal of a cache begins: after the version, and in version 4 after a
 /// header, before which is its number of octets.
-fn principal_place(version: u8, file: &[u8]) -> usize {
+fn principal_place(version: u8, file: &[u8]) -> usize
+    ensures { result ≡ principal_place version file.now }
+{
     match file {
         [_, _, high, low, ..] if version == 4 => {
-            4 + usize::from(u16::from_be_bytes([*high, *low]))
+            4 + (256 * usize::from(*high) + usize::from(*low))
         }
         _ => 2,
     }
@@ -83,7 +98,9 @@ fn put_credential(
     version: u8,
     reader: &mut StreamReader<&[u8]>,
     all: usize,
-) -> Result<bool, RunFault> {
+) -> Result<bool, RunFault>
+    ensures { IfOk result (AddsItem (next_at one_enctype version) is_some 0 all reader.old reader.new spans.old spans.new) }
+{
     let begin = reader.place();
     match read_credential::<OneEnctype, _>(alloc, version, reader) {
         Ok(Some(_credential)) => {
@@ -91,7 +108,8 @@ fn put_credential(
             Ok(true)
         }
         Ok(None) => {
-            spans.put(begin as usize, begin as usize)?;
+            let end = reader.place() as usize;
+            spans.put(end, end)?;
             Ok(false)
         }
         Err(fault) => {
@@ -102,7 +120,9 @@ fn put_credential(
 }
 
 /// Adds the default principal of a cache, its credentials, and where they end.
-pub(crate) fn put_ccache(alloc: Global, spans: &mut Spans, file: &[u8]) -> Result<(), RunFault> {
+pub(crate) fn put_ccache(alloc: Global, spans: &mut Spans, file: &[u8]) -> Result<(), RunFault>
+    ensures { OnOk result (Adds (ccache_spans file.now) spans.old spans.new) }
+{
     let all = file.len();
     let mut reader = StreamReader::new(file, Limit::DEFAULT);
     let version = match read_start(alloc, &[3, 4], &mut reader) {
@@ -110,7 +130,7 @@ pub(crate) fn put_ccache(alloc: Global, spans: &mut Spans, file: &[u8]) -> Resul
         Err(fault) => return put_fault(spans, fault, all),
     };
     spans.put(principal_place(version, file), reader.place() as usize)?;
-    for _ in 0..u64::MAX {
+    'credentials: for _index in 0..all + 1 {
         if !put_credential(alloc, spans, version, &mut reader, all)? {
             return Ok(());
         }

@@ -30,7 +30,7 @@ const WRONG_NAMES: u32 = 2;
 /// What is before what an error says, and after it.
 const BEFORE: &str = "error: ";
 
-const AFTER: &str = "\n\nFor more information, try '--help'.\n";
+const AFTER: &str = "\nFor more information, try '--help'.\n";
 
 /// How octets are listed.
 #[derive(Clone, Copy)]
@@ -38,7 +38,7 @@ struct Options {
     profile: Profile,
     limit: Limit,
     goes_on: bool,
-    now: Option<u32>,
+    time: Option<u32>,
     port: u16,
 }
 
@@ -93,7 +93,7 @@ fn listing_of(
         }
         SourceKind::Message => message_listing(alloc, form, profile, octets),
         SourceKind::Keytab => keytab_listing(alloc, form, octets),
-        SourceKind::Ccache => ccache_listing(alloc, form, options.now, octets),
+        SourceKind::Ccache => ccache_listing(alloc, form, options.time, octets),
         SourceKind::Capture => capture_listing(alloc, form, profile, limit, options.port, octets),
     }
 }
@@ -133,7 +133,7 @@ fn choose(
 
 /// Returns what is said of a listing that ends so, of whose last record this is told.
 fn said_of(alloc: Global, end: RunEnd, told: Vec<u8>) -> Vec<u8>
-    ensures { result.items ≡ said_of end told.entry.items }
+    ensures { result.items ≡ said_of end told.items }
 {
     match end {
         RunEnd::Clean => Vec::new(alloc),
@@ -205,7 +205,7 @@ pub extern "C" fn krbls_fields(
     said: &mut [u8],
     said_size: &mut usize,
 ) -> u32
-    ensures { IsToldOf (AreRowsBy (listings_of listing) names.now (kind_of_octets listing octets.now) (record { profile = profile_of profile; limit = limit_of limit; goes_on = goes_on going_on; now = now_of now; port = port_of port }) octets.now) (record { before = text.old; after = text.new; size_before = size.old; size_after = size.new }) (record { before = said.old; after = said.new; size_before = said_size.old; size_after = said_size.new }) result ⊎ SaysWrong (AreNoNames (listings_of listing) names.now) (record { before = text.old; after = text.new; size_before = size.old; size_after = size.new }) (record { before = said.old; after = said.new; size_before = said_size.old; size_after = said_size.new }) result }
+    ensures { IsToldOf (AreRowsBy (listings_of listing) names.now (kind_of_octets listing octets.now) (record { profile = profile_of profile; limit = limit_of limit; goes_on = goes_on going_on; time = now_of now; port = port_of port }) octets.now) (record { before = text.old; after = text.new; size_before = size.old; size_after = size.new }) (record { before = said.old; after = said.new; size_before = said_size.old; size_after = said_size.new }) result ⊎ SaysWrong (AreNoNames (listings_of listing) names.now) (record { before = text.old; after = text.new; size_before = size.old; size_after = size.new }) (record { before = said.old; after = said.new; size_before = said_size.old; size_after = said_size.new }) result }
 {
     match rows_of_names(alloc, listings_of(listing), names) {
         Ok(choice) => {
@@ -213,7 +213,7 @@ pub extern "C" fn krbls_fields(
                 profile: profile_of(profile),
                 limit: limit_of(limit),
                 goes_on: goes_on(going_on),
-                now: now_of(now),
+                time: now_of(now),
                 port: port_of(port),
             };
             let kind = kind_of_octets(listing, octets);

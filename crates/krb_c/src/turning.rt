@@ -3,8 +3,9 @@
 ghost use Rattle.std.specs.Prelude.{◌≡◌, ◌++◌, IfOk, OnOk};
 ghost use Rattle.krb_input.specs.Sources.{command_for};
 ghost use Rattle.krb_c.specs.Numbers.{goes_on, limit_of, now_of, port_of, profile_of};
-ghost use Rattle.krb_c.specs.Turned.{IsCaptureDecoded, IsDecoded, IsDecodedAs, IsEncoded, IsKeytabTold, IsSorted, IsStreamDecoded, IsStreamDecodedOn, begun_after, framing_of, is_of_message, of_lines, of_said, told_end};
+ghost use Rattle.krb_c.specs.Turned.{IsCaptureDecoded, IsDecoded, IsDecodedAs, IsEncoded, IsKeytabTold, IsSorted, IsStreamDecoded, IsStreamDecodedOn, framing_of, told_end};
 ghost use Rattle.krb_c.specs.Written.{IsToldOf};
+ghost use Rattle.krb_c.specs.inner.Sorting.{begun_after, is_of_message, of_lines, of_said};
 ghost use Rattle.krb_decode.specs.Caches.{decoded_cache};
 ghost use Rattle.krb_decode.specs.Given.{decoded_given};
 
@@ -182,23 +183,6 @@ fn stream_decoded_on(
     Ok(sorted(alloc, text.as_slice(), end)?)
 }
 
-/// Returns the lines of the messages of a capture, or of one of its packets, and what is said.
-fn capture_decoded(
-    alloc: Global,
-    profile: Profile,
-    limit: Limit,
-    port: u16,
-    packet: Option<u32>,
-    octets: &[u8],
-) -> Result<Told, RunFault>
-    ensures { IfOk result (λ made. IsCaptureDecoded made.text.items made.said.items made.end) }
-{
-    let mut reader = octets;
-    let mut text = Vec::new(alloc);
-    let end = run_decode_capture(alloc, profile, &mut reader, &mut text, limit, port, packet)?;
-    Ok(sorted(alloc, text.as_slice(), end)?)
-}
-
 /// Returns what is said of a keytab, which has no messages.
 fn keytab_told(alloc: Global) -> Result<Told, RunFault>
     ensures { IfOk result (λ made. IsKeytabTold made.text.items made.said.items made.end) }
@@ -222,6 +206,23 @@ struct Options {
     packet: Option<u32>,
 }
 
+/// Returns the lines of the messages of a capture, or of one of its packets, and what is said.
+fn capture_decoded(alloc: Global, options: &Options, octets: &[u8]) -> Result<Told, RunFault>
+    ensures { IfOk result (λ made. IsCaptureDecoded options.now octets.now made.text.items made.said.items made.end) }
+{
+    let Options {
+        profile,
+        limit,
+        port,
+        packet,
+        ..
+    } = *options;
+    let mut reader = octets;
+    let mut text = Vec::new(alloc);
+    let end = run_decode_capture(alloc, profile, &mut reader, &mut text, limit, port, packet)?;
+    Ok(sorted(alloc, text.as_slice(), end)?)
+}
+
 /// Returns the lines of the messages of octets, by what their first octets say that they are.
 fn decoded(alloc: Global, options: &Options, octets: &[u8]) -> Result<Told, RunFault>
     ensures { IfOk result (λ made. IsDecoded options.now octets.now made.text.items made.said.items made.end) }
@@ -231,9 +232,7 @@ fn decoded(alloc: Global, options: &Options, octets: &[u8]) -> Result<Told, RunF
         SourceKind::Message => message_decoded(alloc, profile, octets),
         SourceKind::Keytab => keytab_told(alloc),
         SourceKind::Ccache => cache_decoded(alloc, octets),
-        SourceKind::Capture => {
-            capture_decoded(alloc, profile, limit, options.port, options.packet, octets)
-        }
+        SourceKind::Capture => capture_decoded(alloc, options, octets),
         SourceKind::Stream if options.goes_on => stream_decoded_on(alloc, profile, limit, octets),
         SourceKind::Stream => stream_decoded(alloc, profile, limit, octets),
     }

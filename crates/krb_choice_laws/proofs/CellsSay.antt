@@ -1,5 +1,5 @@
 -- The cell of a value is what the member at its path says.
-use Rattle.std.proofs.Common.{◌≡◌, ◌∙◌, ℕ, ℤ, pos, Bool, true, false, cond, Option, Some, None, IfSome, List, [], ◌∷◌, map, append-nil, sym, refl, ap, ap₂, codes}
+use Rattle.std.proofs.Common.{◌==◌, nat_le, ◌&&◌, not, ◌≡◌, ◌∙◌, ℕ, ℤ, pos, Bool, true, false, cond, Option, Some, None, IfSome, List, [], ◌∷◌, ◌++◌, map, append-nil, sym, refl, ap, ap₂, codes}
 use Rattle.std.proofs.lemmas.Slice.Eq.{bytes_eq-Decides}
 use Rattle.std.specs.Fmt.{decimal, signed_decimal}
 use Rattle.std.specs.List.{AllByRecursion, flat_map}
@@ -19,13 +19,13 @@ use Rattle.krb_source.specs.declared.endpoint.Endpoint.{Endpoint}
 use Rattle.krb_source.specs.declared.layer.Layer.{Layer}
 use Rattle.krb_record.specs.Flows.{transport_name}
 use Rattle.krb_record.specs.Forms.{address_cell, cell, digest_cell, encrypted_cell, flags_cell, flow_cell, four_octets, is_mistaken, item_cell, list_cell, name_cell, name_or_dash, named_cell, numbers_cell, offset_cell, or_empty, principal_cell, refused_cell, set_names, shown_octet, string_cell, string_of, true_or_false, value_text, whole_cell}
-use Rattle.krb_record.specs.Text.{AllAreOctets, hex, joined, or_dash, principal_text}
+use Rattle.krb_record.specs.Text.{two_hex, AllAreOctets, hex, joined, or_dash, principal_text}
 use Rattle.krb_record.specs.Values.{Absent, Address, Called, Digest, Encrypted, ErrorCode, Field, FileName, Flags, Flow, Hex, Host, Layers, Named, NoReason, NoTicket, Number, Numbers, Offset, Principal, Quoted, Reason, RefusedTicket, Span, Status, String, TicketFlags, Value, Word, YesNo}
 use Rattle.krb_record.specs.declared.flow.Transport.{Transport}
 use Rattle.krb_record.specs.declared.path.Path.{Path}
 use Rattle.krb_record.specs.declared.path.Path.TheVariants as paths
 use Rattle.krb_laws.specs.Json.{address_json, digest_json, encrypted_json, flags_json, if_known, json_of_value, list_of, name_json, number_of, octets_of, offset_json, principal_json, refused_json}
-use Rattle.krb_choice_laws.specs.Cells.{IsWord, Speaks, character, item_said, items_said, line_part, member_at, object_with, said}
+use Rattle.krb_choice_laws.specs.Cells.{IsUnmistaken, IsWord, Speaks, name_said, said_of, character, item_said, items_said, line_part, member_at, object_with, said}
 use Rattle.krb_choice_laws.proofs.Decoded.{item-not-dash}
 use Rattle.krb_choice_laws.proofs.Lists.{joined-map}
 use Rattle.krb_choice_laws.proofs.MembersAt.{at-is, at_json, name_beside, names_beside}
@@ -69,7 +69,7 @@ names-said : (registry : Registry) (ns : List ℤ) → items_said (items_of (map
 names-said registry ns = items-map (name_json registry) (name_or_dash registry) (λ n. Unit {0}) (λ n h. found-item (name_of registry n) (its-item registry n (name_of registry n) refl)) ns (every ns)
 
 -- a list none of whose items is `-`
-abbrev IsOther : List ℕ → Type 0
+abbrev pub IsOther : List ℕ → Type 0
 IsOther text = codes "-" ≡ text → ⊥
 
 dash-no : (text : List ℕ) → IsOther text → bytes_eq (codes "-") text ≡ false
@@ -79,7 +79,7 @@ dash-no text h = by (bytes_eq (codes "-") text) refl
     by true e = absurd (h ((bytes_eq-Decides (codes "-") text).0 e))
     by false e = refl
 
-list-is : (texts : List (List ℕ)) → AllByRecursion IsOther texts → joined (codes "[]") (codes ",") (λ text. text) texts ≡ list_cell texts
+pub list-is : (texts : List (List ℕ)) → AllByRecursion IsOther texts → joined (codes "[]") (codes ",") (λ text. text) texts ≡ list_cell texts
 list-is [] h = refl
 list-is (text ∷ []) h = append-nil text ∙ sym (ap (λ b. cond b (codes "[-]") text) (dash-no text h.0))
 list-is (first ∷ second ∷ others) h = refl
@@ -98,7 +98,7 @@ item-other octets h e = item-not-dash octets h (sym e)
 components-said : (components : List (List ℕ)) → AllAreOctets components → joined (codes "[]") (codes ",") item_cell components ≡ list_cell (items_said (items_of (map octets_of components)))
 components-said components h = joined-said octets_of item_cell AreOctets (λ octets k. item-strings octets k) item-other components h
 
-word-other : (name : List ℕ) → Item name → IsOther name
+pub word-other : (name : List ℕ) → Item name → IsOther name
 word-other name h e = let w = a-word name h.word in let f : true ≡ false = ap is_mistaken e ∙ w.unmistaken in cc
 
 flags-said : (registry : Registry) (octets : List ℕ) → joined (codes "[]") (codes ",") (λ name. name) (set_names registry octets) ≡ list_cell (items_said (items_of (map string (set_names registry octets))))
@@ -193,36 +193,53 @@ flow-at paths.TargetAddress transport source target h k = addresses-as-they-are 
 flow-at path transport source target h k = refl
 
 -- ---- values
-said-at : (path : Path) (value : Value) → Speaks value → cell path value ≡ said (line_part value path) (at_json path (json_of_value value) (name_beside value) (names_beside value))
+pub said-at : (path : Path) (value : Value) → Speaks value → IsUnmistaken value → cell path value ≡ said (line_part value path) (at_json path (json_of_value value) (name_beside value) (names_beside value))
 unfolding cell json_of_value value_text
-said-at path Absent h = null-at path _
-said-at path NoTicket h = null-at path _
-said-at path NoReason h = null-at path _
-said-at path (Number n) h = number-at path _ (signed_decimal n)
-said-at path (Named registry n) h = named-at path _ (signed_decimal n) (name_or_dash registry n) (name_json registry n) (name-said registry n _)
-said-at path (Numbers registry ns) h = numbers-at path _ registry ns
-said-at path (ErrorCode code) h = named-at path _ (signed_decimal code) (name_or_dash registries.ErrorCodes code) (name_json registries.ErrorCodes code) (name-said registries.ErrorCodes code _)
-said-at path (Status n) h = status-at path _ (hex (four_octets n)) (hex (four_octets n)) (name_or_dash registries.Statuses (pos n)) (name_json registries.Statuses (pos n)) (hexes (four_octets n) (four n h)) (name-said registries.Statuses (pos n) _)
-said-at path (Reason n name) h = named-at path _ (decimal n) (string_cell name) (string name) (word-cells name h)
-said-at path (String octets) h = string-at path _ (string_cell octets) (flat_map shown_octet octets) (strings octets h)
-said-at path (Quoted octets) h = string-at path _ (string_cell octets) (flat_map shown_octet octets) (strings octets h)
-said-at path (FileName octets) h = string-at path _ (name_cell octets) (flat_map shown_octet octets) (file-names octets h.0 h.1)
-said-at path (Word text) h = string-at path _ (string_cell text) text (word-cells text h)
-said-at path (Hex octets) h = string-at path _ (or_empty (hex octets)) (hex octets) (hexes octets h)
-said-at path (Flags registry bits) h = flags-at path _ registry bits h
-said-at path (TicketFlags flags) h = flags-at path _ registries.TicketFlags (0, four_octets flags) (four flags h)
-said-at path (Encrypted etype kvno size) h = encrypted-at path _ etype kvno size
-said-at path (Principal name_type components realm) h = principal-at path _ name_type components realm refl h.0 h.1
-said-at path (Address addr_type octets) h = address-at path _ addr_type octets h
-said-at path (Digest cksumtype size) h = digest-at path _ cksumtype size
-said-at path (YesNo holds) h = truth-at path _ holds
-said-at path (Offset seconds microseconds) h = offset-at path _ seconds microseconds
-said-at path (RefusedTicket r) h = refused-at path _ r
-said-at path (Flow transport source target) h = flow-at path transport source target h.0 h.1
-said-at path (Layers layers) h = list-at path _ (joined (codes "[]") (codes ",") layer_name layers) _ (layers-said layers)
-said-at path (Span microseconds) h = number-at path _ (signed_decimal microseconds)
-said-at path (Called n name) h = named-at path _ (decimal n) (or_dash (λ name. name) name) (if_known string name) (found-said _ name h)
-said-at path (Host address) h = string-at path _ (ip_text address) (ip_text address) (addresses-as-they-are address h)
+said-at path Absent h k = null-at path _
+said-at path NoTicket h k = null-at path _
+said-at path NoReason h k = null-at path _
+said-at path (Number n) h k = number-at path _ (signed_decimal n)
+said-at path (Named registry n) h k = named-at path _ (signed_decimal n) (name_or_dash registry n) (name_json registry n) (name-said registry n _)
+said-at path (Numbers registry ns) h k = numbers-at path _ registry ns
+said-at path (ErrorCode code) h k = named-at path _ (signed_decimal code) (name_or_dash registries.ErrorCodes code) (name_json registries.ErrorCodes code) (name-said registries.ErrorCodes code _)
+said-at path (Status n) h k = status-at path _ (hex (four_octets n)) (hex (four_octets n)) (name_or_dash registries.Statuses (pos n)) (name_json registries.Statuses (pos n)) (hexes (four_octets n) (four n h)) (name-said registries.Statuses (pos n) _)
+said-at path (Reason n name) h k = named-at path _ (decimal n) (string_cell name) (string name) (word-cells name h)
+said-at path (String octets) h k = string-at path _ (string_cell octets) (flat_map shown_octet octets) (strings octets h)
+said-at path (Quoted octets) h k = string-at path _ (string_cell octets) (flat_map shown_octet octets) (strings octets h)
+said-at path (FileName octets) h k = string-at path _ (name_cell octets) (flat_map shown_octet octets) (file-names octets h k)
+said-at path (Word text) h k = string-at path _ (string_cell text) text (word-cells text h)
+said-at path (Hex octets) h k = string-at path _ (or_empty (hex octets)) (hex octets) (hexes octets h)
+said-at path (Flags registry bits) h k = flags-at path _ registry bits h
+said-at path (TicketFlags flags) h k = flags-at path _ registries.TicketFlags (0, four_octets flags) (four flags h)
+said-at path (Encrypted etype kvno size) h k = encrypted-at path _ etype kvno size
+said-at path (Principal name_type components realm) h k = principal-at path _ name_type components realm refl h.0 h.1
+said-at path (Address addr_type octets) h k = address-at path _ addr_type octets h
+said-at path (Digest cksumtype size) h k = digest-at path _ cksumtype size
+said-at path (YesNo holds) h k = truth-at path _ holds
+said-at path (Offset seconds microseconds) h k = offset-at path _ seconds microseconds
+said-at path (RefusedTicket r) h k = refused-at path _ r
+said-at path (Flow transport source target) h k = flow-at path transport source target h.0 h.1
+said-at path (Layers layers) h k = list-at path _ (joined (codes "[]") (codes ",") layer_name layers) _ (layers-said layers)
+said-at path (Span microseconds) h k = number-at path _ (signed_decimal microseconds)
+said-at path (Called n name) h k = named-at path _ (decimal n) (or_dash (λ name. name) name) (if_known string name) (found-said _ name h)
+said-at path (Host address) h k = string-at path _ (ip_text address) (ip_text address) (addresses-as-they-are address h)
 
-pub cells-say : (path : Path) (field : Field) → Speaks field.value → cell path field.value ≡ said (line_part field.value path) (member_at path field.name (object_with field))
-cells-say path field h = said-at path field.value h ∙ ap (said (line_part field.value path)) (sym (at-is path field.name field.value))
+name-at : (path : Path) (octets : List ℕ) → whole_cell path (name_cell octets) ≡ name_said (at_json path (string (flat_map shown_octet octets)) null null)
+name-at paths.Whole [] = refl
+name-at paths.Whole (o ∷ octets) = by (nat_le 0x20 o && nat_le o 0x7E && not (o == 0x5C))
+  where
+    by : (plain : Bool) → cond plain (o ∷ []) (codes "\\x" ++ two_hex o) ++ flat_map shown_octet octets ≡ or_empty (cond plain (o ∷ []) (codes "\\x" ++ two_hex o) ++ flat_map shown_octet octets)
+    by true = refl
+    by false = refl
+name-at path octets = refl
+
+said-of : (path : Path) (value : Value) → Speaks value → cell path value ≡ said_of value path (at_json path (json_of_value value) (name_beside value) (names_beside value))
+unfolding cell json_of_value
+said-of path (FileName octets) h = name-at path octets
+said-of path value h = said-at path value h tt
+
+pub cells-say : (path : Path) (field : Field) → Speaks field.value → cell path field.value ≡ said_of field.value path (member_at path field.name (object_with field))
+cells-say path field h = said-of path field.value h ∙ ap (said_of field.value path) (sym (at-is path field.name field.value))
+
+pub says-plainly : (path : Path) (field : Field) → Speaks field.value → IsUnmistaken field.value → cell path field.value ≡ said (line_part field.value path) (member_at path field.name (object_with field))
+says-plainly path field h k = said-at path field.value h k ∙ ap (said (line_part field.value path)) (sym (at-is path field.name field.value))

@@ -95,6 +95,19 @@ module _ (kinds : List (List ℕ)) (base : Base) (r : Printed) (plain : IsPlain 
   whole-kept true is_last = ap₂ (λ k b. chosen_of kinds k || b) whole-parts.0 whole-inside
   whole-kept false is_last = ap (λ k. chosen_of kinds k && true && (false || not is_last)) whole-parts.0
 
+-- of its text and of itself alike
+pub kept-is : (c : Choice) (is_last : Bool) (r : Printed) → IsPlain r → is_kept c is_last (read_record (record_text (choice_form c) r)) ≡ is_kept c is_last (shown r)
+unfolding choice_form
+kept-is c is_last r plain = by c.print
+  where
+    by : (print : Print)
+        → is_kept (record { by_kind = c.by_kind; kinds = c.kinds; print = print }) is_last (read_record (record_text (choice_form (record { by_kind = c.by_kind; kinds = c.kinds; print = print })) r))
+        ≡ is_kept (record { by_kind = c.by_kind; kinds = c.kinds; print = print }) is_last (shown r)
+    by (Rows columns) =
+        let choice : Choice = record { by_kind = c.by_kind; kinds = c.kinds; print = Rows columns } in
+        ap (is_kept choice is_last) (read-is (wanted_by c.by_kind c.kinds columns) r plain) ∙ rows-kept c.by_kind c.kinds columns is_last r plain
+    by (Whole base) = whole-kept c.kinds base r plain c.by_kind is_last
+
 pub written-is : (c : Choice) (is_last : Bool) (r : Printed) → IsPlain r → written c is_last (record_text (choice_form c) r) ≡ chosen_text c is_last r
 unfolding written chosen_text choice_form
 written-is c is_last r plain = by c.print

@@ -12,6 +12,7 @@ pub mod Lists
 pub mod KeptKinds
 pub mod Lines
 pub mod Values
+pub mod Worded
 pub mod InsideWords
 pub mod MessagesPlain
 pub mod RecordsPlain
@@ -23,3 +24,14 @@ pub mod Words
 pub mod CellsSay
 pub mod CellsApart
 pub mod MembersTold
+pub mod Ends
+pub mod Objects
+pub mod MessagesSay
+pub mod MessagesListed
+pub mod AllKinds
+pub mod TimeWords
+pub mod CapturedSay
+pub mod RecordsSay
+pub mod FilesSay
+pub mod IcmpWords
+pub mod RowsObjects

@@ -27,7 +27,7 @@ use Rattle.krb_record.specs.declared.path.Path.TheVariants as paths
 use Rattle.krb_laws.specs.Json.{address_json, digest_json, encrypted_json, flags_json, if_known, json_of_value, list_of, name_json, number_of, octets_of, offset_json, principal_json, refused_json}
 use Rattle.krb_choice_laws.specs.Cells.{IsWord, MembersAreApart, Speaks, line_part, member_at, object_with}
 use Rattle.krb_choice_laws.proofs.CellsApart.{AreTold, IsOther, IsText, IsTold, IsToldItem, Shows, apart, escaped, is_escaped}
-use Rattle.krb_choice_laws.proofs.CellsSay.{cells-say, every, its-word}
+use Rattle.krb_choice_laws.proofs.CellsSay.{every, its-word, says-plainly}
 use Rattle.krb_choice_laws.proofs.Decoded.{Outside, all-decoded, decoded, shown-shows}
 use Rattle.krb_choice_laws.proofs.Lists.{is_of_number, number-is, number-item}
 use Rattle.krb_choice_laws.proofs.MembersAt.{at-is, at_json, name_beside, names_beside}
@@ -221,7 +221,7 @@ told-at path (Status n) h = status-in path (hex (four_octets n)) (name_json regi
 told-at path (Reason n name) h = named-in path (decimal n) (string name) (count-other n) (word-told name h)
 told-at path (String octets) h = string-in path (flat_map shown_octet octets) (strings-told octets h)
 told-at path (Quoted octets) h = string-in path (flat_map shown_octet octets) (strings-told octets h)
-told-at path (FileName octets) h = string-in path (flat_map shown_octet octets) (strings-told octets h.0)
+told-at path (FileName octets) h = string-in path (flat_map shown_octet octets) (strings-told octets h)
 told-at path (Word text) h = string-in path text (word-told text h)
 told-at path (Hex octets) h = string-in path (hex octets) (hex-told octets h)
 told-at path (Flags registry bits) h = flags-in path registry bits h
@@ -243,6 +243,6 @@ its-told : (path : Path) (field : Field) → Speaks field.value → IsTold (memb
 its-told path field h = subst IsTold (sym (at-is path field.name field.value)) (told-at path field.value h)
 
 pub members-apart : MembersAreApart
-members-apart type path one other h k e f same =
+members-apart type path one other h k u v e f same =
     apart type (line_part one.value path) (line_part other.value path) (member_at path one.name (object_with one)) (member_at path other.name (object_with other)) (its-told path one h) (its-told path other k) e f
-    (sym (cells-say path one h) ∙ same ∙ cells-say path other k)
+    (sym (says-plainly path one h u) ∙ same ∙ says-plainly path other k v)

@@ -97,14 +97,17 @@ in_plain forms.NamedLines told = told_plain told
 in_plain forms.KeptNamedLines told = told_plain told
 in_plain form told = refl
 
-shown-origin : (form : Form) (origin : CaptureOrigin) → OriginIsInRange origin → AreShown (origin_fields form origin)
+pub shown-origin : (form : Form) (origin : CaptureOrigin) → OriginIsInRange origin → AreShown (origin_fields form origin)
 shown-origin form origin range = (tt, (time_shown origin.time range.time, ((range.source, range.target), in_shown form origin.told)))
 
 pub plain-origin : (form : Form) (origin : CaptureOrigin) → OriginIsInRange origin → ArePlain (origin_fields form origin)
 plain-origin form origin range = plain-fields (origin_fields form origin) (in_plain form origin.told) (shown-origin form origin range)
 
+pub shown-last : (origin : CaptureOrigin) → AreShown (last_fields origin)
+shown-last origin = (last_shown origin.time, told_shown origin.told)
+
 pub plain-last : (origin : CaptureOrigin) → ArePlain (last_fields origin)
-plain-last origin = plain-fields (last_fields origin) (told_plain origin.told) (last_shown origin.time, told_shown origin.told)
+plain-last origin = plain-fields (last_fields origin) (told_plain origin.told) (shown-last origin)
 
 pub captured-plain : (form : Form) (origin : CaptureOrigin) (m : Message) → OriginIsInRange origin → IsInProfile profiles.Lenient m → IsPlain (captured_record form origin (message_record m))
 captured-plain form origin m range good =

@@ -1,12 +1,14 @@
 -- What is read of the pieces of a record.
 use Rattle.std.proofs.Common.{◌≡◌, ◌∙◌, ℕ, ◌/◌, ◌%◌, ◌==◌, Bool, true, false, cond, List, [], ◌∷◌, ◌++◌, append-nil, append_assoc, map, Option, Some, None, sym, refl, ap, ap₂, if◌then◌else◌}
 use Rattle.std.specs.List.{flat_map, list_any}
+use Rattle.std.specs.Option.{option_map}
 use Rattle.krb_record.specs.Forms.{all_paths, cell, has_inside, path_letter}
 use Rattle.krb_record.specs.Values.{Field, LastLine, Part, Printed, Value}
 use Rattle.krb_record.specs.declared.form.Wanted.{Wanted}
 use Rattle.krb_record.specs.declared.path.Path.{Path}
-use Rattle.krb_choice.specs.Choices.{ShownField, ShownPart, ShownRecord, is_there, kind_alone}
-use Rattle.krb_choice.specs.Marked.{Piece, after_kind, field_read, first_cells, inside_read, is_marked, kind_read, own_fields, part_fields, parts_read, read_pieces, text_of_cells}
+use Rattle.krb_choice.specs.Choices.{ShownField, ShownPart, ShownRecord, kind_alone}
+use Rattle.krb_choice.specs.Marked.{Piece, after_kind, aside_of, field_read, first_cells, inside_read, is_marked, kind_read, own_fields, part_fields, parts_read, read_pieces, text_of_cells}
+use Rattle.krb_choice_laws.specs.Plain.{line_text}
 use Rattle.krb_choice_laws.proofs.Spelled.{aside_pieces, begin_of, cell_pieces, field_pieces, fields_pieces, inside_pieces, is_unwanted, kind_pieces, marked, part_pieces, paths_of, record_pieces}
 
 -- ---- what is read
@@ -216,24 +218,24 @@ module _ (w : Wanted) (r : Printed) where
       ∙ skip-aside (list_any (is_marked 4)) (λ text ps. refl) r.aside
 
   -- what tells of it
-  inside-untold : (inside : Option (List Part)) → list_any (is_marked 5) (from_inside inside) ≡ false
-  inside-untold None = last-none (list_any (is_marked 5)) (λ text ps. refl) (λ text ps. refl)
+  inside-untold : (inside : Option (List Part)) → aside_of (from_inside inside) ≡ None
+  inside-untold None = last-none aside_of (λ text ps. refl) (λ text ps. refl)
   inside-untold (Some parts) = by (has_inside w)
     where
-      by : (has : Bool) → list_any (is_marked 5) (cond has (marked 4 [] ∷ (flat_map (part_pieces w) parts ++ marked 7 [] ∷ [])) [] ++ last) ≡ false
+      by : (has : Bool) → aside_of (cond has (marked 4 [] ∷ (flat_map (part_pieces w) parts ++ marked 7 [] ∷ [])) [] ++ last) ≡ None
       by true =
-          ap (list_any (is_marked 5)) (append_assoc (flat_map (part_pieces w) parts) (marked 7 [] ∷ []) last)
-          ∙ skip-parts (list_any (is_marked 5)) (λ kind ps. refl) (λ text ps. refl) (λ text ps. refl) w parts (marked 7 [] ∷ last) ∙ last-none (list_any (is_marked 5)) (λ text ps. refl) (λ text ps. refl)
-      by false = last-none (list_any (is_marked 5)) (λ text ps. refl) (λ text ps. refl)
+          ap aside_of (append_assoc (flat_map (part_pieces w) parts) (marked 7 [] ∷ []) last)
+          ∙ skip-parts aside_of (λ kind ps. refl) (λ text ps. refl) (λ text ps. refl) w parts (marked 7 [] ∷ last) ∙ last-none aside_of (λ text ps. refl) (λ text ps. refl)
+      by false = last-none aside_of (λ text ps. refl) (λ text ps. refl)
 
-  aside-told : (aside : Option LastLine) → list_any (is_marked 5) (from_aside aside) ≡ is_there aside
+  aside-told : (aside : Option LastLine) → aside_of (from_aside aside) ≡ option_map line_text aside
   aside-told None = inside-untold r.inside
   aside-told (Some line) = refl
 
-  pub told-is : list_any (is_marked 5) (record_pieces w r) ≡ is_there r.aside
+  pub told-is : aside_of (record_pieces w r) ≡ option_map line_text r.aside
   told-is =
-      skip-fields (list_any (is_marked 5)) (λ text ps. refl) (λ text ps. refl) w r.origin (kind_pieces r.kind ++ after)
-      ∙ skip-fields (list_any (is_marked 5)) (λ text ps. refl) (λ text ps. refl) w r.fields (from_aside r.aside) ∙ aside-told r.aside
+      skip-fields aside_of (λ text ps. refl) (λ text ps. refl) w r.origin (kind_pieces r.kind ++ after)
+      ∙ skip-fields aside_of (λ text ps. refl) (λ text ps. refl) w r.fields (from_aside r.aside) ∙ aside-told r.aside
 
   pub record-read : read_pieces (record_pieces w r) ≡ record_by w r
   record-read =

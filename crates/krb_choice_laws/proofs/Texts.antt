@@ -124,7 +124,7 @@ item-strings (o ∷ octets) h = by (is_mistaken (o ∷ octets)) refl
         ∙ item-octets (o ∷ octets) h ∙ sym (as-shown item_octet (o ∷ octets) tt e)
 
 -- ---- words
-abbrev is_plain : ℕ → Bool
+abbrev pub is_plain : ℕ → Bool
 is_plain c = nat_le 0x20 c && nat_le c 0x7E && not (c == 0x5C)
 
 plain-octet : (c : ℕ) → is_plain c ≡ true → c < 256
@@ -186,6 +186,11 @@ begun text h = sym (as-it-is text h.0 (no-mistake begins_marked (refl, (refl, (r
 pub begins-so : (text rest : List ℕ) → Begins text → Begins (text ++ rest)
 begins-so [] rest h = absurd h.0
 begins-so (c ∷ others) rest h = h
+
+-- such a text of plain octets is a word
+pub begun-word : (text : List ℕ) → list_all is_plain text ≡ true → Begins text → IsWord text
+begun-word [] h b = absurd b.0
+begun-word (c ∷ others) h b = ap₂ (λ p m. p && (not m && true)) h (no-mistake begins_marked (refl, (refl, (refl, (refl, (refl, tt))))) (c ∷ others) b.1)
 
 glyph-mark : (d : ℕ) → d < 16 → is_mark (digit_glyph false d) ≡ false
 glyph-mark d h = grind (arith, nat_tests)

@@ -5,6 +5,7 @@ use Rattle.std.proofs.lemmas.Bool.Decides.{nat_tests}
 use Rattle.std.specs.Fmt.{decimal}
 use Rattle.std.specs.Int.Bits.{and_zero_l}
 use Rattle.std.specs.List.{AllByRecursion, flat_map, list_all, list_any}
+use Rattle.std.specs.Option.{option_map}
 use Rattle.std.specs.Prelude.{IfSome}
 use Rattle.krb_record.specs.Forms.{all_paths, aside_text, cells, cells_from, closing, fields_text, form_of, heading, inside_text, kept_form, kind_mark, labelled, last_text, name_bit, nothing_wanted, opening, opening_from, origin_text, part_text, parts_text, record_text, value_text}
 use Rattle.krb_record.specs.Text.{IsPrintable, joined, line_feed}
@@ -13,8 +14,8 @@ use Rattle.krb_record.specs.declared.form.Base.{Base}
 use Rattle.krb_record.specs.declared.form.Base.TheVariants as bases
 use Rattle.krb_record.specs.declared.form.Form.TheVariants as form
 use Rattle.krb_record.proofs.Printable.{is_printable, word}
-use Rattle.krb_choice.specs.Choices.{is_there, kind_alone}
-use Rattle.krb_choice.specs.Marked.{Piece, after_kind, is_marked, kept_piece, kind_read, part_fields, parts_read, pieces, unmarked, whole_text}
+use Rattle.krb_choice.specs.Choices.{kind_alone}
+use Rattle.krb_choice.specs.Marked.{Piece, after_kind, aside_of, kept_piece, kind_read, part_fields, parts_read, pieces, unmarked, whole_text}
 use Rattle.krb_choice_laws.specs.Plain.{ArePlain, IsPlain, IsPlainField, IsPlainPart, line_text}
 use Rattle.krb_choice_laws.proofs.Marks.{pieces-append, unmarked-append}
 use Rattle.krb_choice_laws.proofs.Numbers.{number}
@@ -43,60 +44,65 @@ pub no-feeds : (text : List ℕ) → IsPrintable text → has_no_feed text ≡ t
 no-feeds [] h = refl
 no-feeds (c ∷ others) h = and_from (not (c == 10)) (has_no_feed others) (no-feed c h.0.0) (no-feeds others h.1)
 
+-- the line that tells of a record is the first one
+abbrev pub or_told : (told other : Option (List ℕ)) → Option (List ℕ)
+or_told None other = other
+or_told (Some line) other = Some line
+
 -- a text before any other gives it a text, kinds, and what tells of the record
-pub record Keeps (xs text : List ℕ) (kinds : List (List ℕ)) (told : Bool) : Type 0 where
+pub record Keeps (xs text : List ℕ) (kinds : List (List ℕ)) (told : Option (List ℕ)) : Type 0 where
   pub text_is : (rest : List ℕ) → between (xs ++ rest) ≡ text ++ between rest
   pub kinds_are : (rest : List ℕ) → kinds_of (pieces (xs ++ rest)) ≡ kinds ++ kinds_of (pieces rest)
-  pub told_is : (rest : List ℕ) → list_any (is_marked 5) (pieces (xs ++ rest)) ≡ (told || list_any (is_marked 5) (pieces rest))
+  pub told_is : (rest : List ℕ) → aside_of (pieces (xs ++ rest)) ≡ or_told told (aside_of (pieces rest))
   pub feed : has_no_feed xs ≡ true
 
-or-or : (a b c : Bool) → (a || (b || c)) ≡ ((a || b) || c)
-or-or true b c = refl
-or-or false b c = refl
+or-or : (a b c : Option (List ℕ)) → or_told a (or_told b c) ≡ or_told (or_told a b) c
+or-or None b c = refl
+or-or (Some line) b c = refl
 
-pub both : {xs ys text more : List ℕ} {kinds others : List (List ℕ)} {told again : Bool} → Keeps xs text kinds told → Keeps ys more others again → Keeps (xs ++ ys) (text ++ more) (kinds ++ others) (told || again)
+pub both : {xs ys text more : List ℕ} {kinds others : List (List ℕ)} {told again : Option (List ℕ)} → Keeps xs text kinds told → Keeps ys more others again → Keeps (xs ++ ys) (text ++ more) (kinds ++ others) (or_told told again)
 both {xs} {ys} {text} {more} {kinds} {others} {told} {again} h k = record {
   text_is = λ rest. ap between (append_assoc xs ys rest) ∙ h.text_is (ys ++ rest) ∙ ap (λ l. text ++ l) (k.text_is rest) ∙ sym (append_assoc text more (between rest));
   kinds_are = λ rest. ap (λ l. kinds_of (pieces l)) (append_assoc xs ys rest) ∙ h.kinds_are (ys ++ rest) ∙ ap (λ l. kinds ++ l) (k.kinds_are rest) ∙ sym (append_assoc kinds others (kinds_of (pieces rest)));
-  told_is = λ rest. ap (λ l. list_any (is_marked 5) (pieces l)) (append_assoc xs ys rest) ∙ h.told_is (ys ++ rest) ∙ ap (λ b. told || b) (k.told_is rest) ∙ or-or told again (list_any (is_marked 5) (pieces rest));
+  told_is = λ rest. ap (λ l. aside_of (pieces l)) (append_assoc xs ys rest) ∙ h.told_is (ys ++ rest) ∙ ap (or_told told) (k.told_is rest) ∙ or-or told again (aside_of (pieces rest));
   feed = feeds-append xs ys h.feed k.feed;
 }
 
-pub plain : (xs : List ℕ) → IsPrintable xs → Keeps xs xs [] false
+pub plain : (xs : List ℕ) → IsPrintable xs → Keeps xs xs [] None
 plain xs h = record {
   text_is = λ rest. ap₂ (λ a b. a ++ flat_map kept_piece b) (unmarked-append xs rest h) (pieces-append xs rest h) ∙ append_assoc xs (unmarked rest) (flat_map kept_piece (pieces rest));
   kinds_are = λ rest. ap kinds_of (pieces-append xs rest h);
-  told_is = λ rest. ap (list_any (is_marked 5)) (pieces-append xs rest h);
+  told_is = λ rest. ap aside_of (pieces-append xs rest h);
   feed = no-feeds xs h;
 }
 
-said : (text : List ℕ) → list_all is_printable text ≡ true → Keeps text text [] false
+said : (text : List ℕ) → list_all is_printable text ≡ true → Keeps text text [] None
 said text e = plain text (word text e).all
 
-pub none : Keeps [] [] [] false
+pub none : Keeps [] [] [] None
 none = plain [] tt
 
-marked-kind : (kind : List ℕ) → IsPrintable kind → Keeps (kind_mark kind) [] (kind_alone kind ∷ []) false
+marked-kind : (kind : List ℕ) → IsPrintable kind → Keeps (kind_mark kind) [] (kind_alone kind ∷ []) None
 marked-kind kind h = record {
   text_is = λ rest. ap between (ap (λ l. 1 ∷ l) (append_assoc kind (6 ∷ []) rest)) ∙ ap (flat_map kept_piece) (pieces-append kind (6 ∷ rest) h);
   kinds_are = λ rest.
       ap (λ l. kinds_of (pieces (1 ∷ l))) (append_assoc kind (6 ∷ []) rest)
       ∙ ap₂ (λ (text : List ℕ) (all : List Piece). kind_alone text ∷ kinds_of all) (unmarked-append kind (6 ∷ rest) h ∙ append-nil kind) (pieces-append kind (6 ∷ rest) h);
-  told_is = λ rest. ap (λ l. list_any (is_marked 5) (pieces (1 ∷ l))) (append_assoc kind (6 ∷ []) rest) ∙ ap (list_any (is_marked 5)) (pieces-append kind (6 ∷ rest) h);
+  told_is = λ rest. ap (λ l. aside_of (pieces (1 ∷ l))) (append_assoc kind (6 ∷ []) rest) ∙ ap aside_of (pieces-append kind (6 ∷ rest) h);
   feed = feeds-append kind (6 ∷ []) (no-feeds kind h) refl;
 }
 
-marked-aside : (text : List ℕ) → IsPrintable text → Keeps (5 ∷ text ++ 6 ∷ []) [] [] true
+marked-aside : (text : List ℕ) → IsPrintable text → Keeps (5 ∷ text ++ 6 ∷ []) [] [] (Some text)
 marked-aside text h = record {
   text_is = λ rest. ap between (ap (λ l. 5 ∷ l) (append_assoc text (6 ∷ []) rest)) ∙ ap (flat_map kept_piece) (pieces-append text (6 ∷ rest) h);
   kinds_are = λ rest. ap (λ l. kinds_of (pieces (5 ∷ l))) (append_assoc text (6 ∷ []) rest) ∙ ap kinds_of (pieces-append text (6 ∷ rest) h);
-  told_is = λ rest. ap (λ l. list_any (is_marked 5) (pieces (5 ∷ l))) (append_assoc text (6 ∷ []) rest);
+  told_is = λ rest. ap (λ l. aside_of (pieces (5 ∷ l))) (append_assoc text (6 ∷ []) rest) ∙ ap Some (unmarked-append text (6 ∷ rest) h ∙ append-nil text);
   feed = feeds-append text (6 ∷ []) (no-feeds text h) refl;
 }
 
 -- ---- fields
 
-labelled-keeps : (base : Base) (label : List ℕ) (f : Field) → IsPrintable label → IsPlainField f → Keeps (labelled (kept_form base) label (codes ",\"" ++ f.name) f.value) (labelled (form_of base) label (codes ",\"" ++ f.name) f.value) [] false
+labelled-keeps : (base : Base) (label : List ℕ) (f : Field) → IsPrintable label → IsPlainField f → Keeps (labelled (kept_form base) label (codes ",\"" ++ f.name) f.value) (labelled (form_of base) label (codes ",\"" ++ f.name) f.value) [] None
 unfolding labelled
 labelled-keeps bases.Lines label f l h = plain _ (prints label (value_text false f.value) l (h.line false))
 labelled-keeps bases.NamedLines label f l h = plain _ (prints label (value_text true f.value) l (h.line true))
@@ -105,38 +111,38 @@ labelled-keeps bases.Json label f l h = plain _ h.object
 field-label : (f : Field) → IsPlainField f → IsPrintable (codes " " ++ f.name ++ codes "=")
 field-label f h = prints (codes " " ++ f.name) (codes "=") (prints (codes " ") f.name (word (codes " ") refl).all h.name) (word (codes "=") refl).all
 
-fields-keep : (base : Base) (fields : List Field) → ArePlain fields → Keeps (fields_text (kept_form base) fields) (fields_text (form_of base) fields) [] false
+fields-keep : (base : Base) (fields : List Field) → ArePlain fields → Keeps (fields_text (kept_form base) fields) (fields_text (form_of base) fields) [] None
 fields-keep base [] h = none
 fields-keep base (f ∷ others) h = both (labelled-keeps base (codes " " ++ f.name ++ codes "=") f (field-label f h.0) h.0) (fields-keep base others h.1)
 
-origin-keeps : (base : Base) (fields : List Field) → ArePlain fields → Keeps (origin_text (kept_form base) fields) (origin_text (form_of base) fields) [] false
+origin-keeps : (base : Base) (fields : List Field) → ArePlain fields → Keeps (origin_text (kept_form base) fields) (origin_text (form_of base) fields) [] None
 origin-keeps base [] h = none
 origin-keeps base (f ∷ others) h = both (labelled-keeps base (f.name ++ codes "=") f (prints f.name (codes "=") h.0.name (word (codes "=") refl).all) h.0) (fields-keep base others h.1)
 
 -- ---- what begins and ends a record
-opening-keeps : (base : Base) (kind : List ℕ) → IsPrintable kind → Keeps (opening (kept_form base) kind) (opening (form_of base) kind) (kind_alone kind ∷ []) false
+opening-keeps : (base : Base) (kind : List ℕ) → IsPrintable kind → Keeps (opening (kept_form base) kind) (opening (form_of base) kind) (kind_alone kind ∷ []) None
 unfolding opening
 opening-keeps bases.Lines kind h = both (marked-kind kind h) (plain kind h)
 opening-keeps bases.NamedLines kind h = both (marked-kind kind h) (plain kind h)
 opening-keeps bases.Json kind h = both (both (both (marked-kind kind h) (said (codes "{\"kind\":\"") refl)) (plain kind h)) (said (codes "\"") refl)
 
-closing-keeps : (base : Base) → Keeps (closing (kept_form base)) (closing (form_of base)) [] false
+closing-keeps : (base : Base) → Keeps (closing (kept_form base)) (closing (form_of base)) [] None
 unfolding closing
 closing-keeps bases.Lines = none
 closing-keeps bases.NamedLines = none
 closing-keeps bases.Json = said (codes "}") refl
 
-from-keeps : (base : Base) (origin : List Field) (kind : List ℕ) → ArePlain origin → IsPrintable kind → Keeps (opening_from (kept_form base) origin kind) (opening_from (form_of base) origin kind) (kind_alone kind ∷ []) false
+from-keeps : (base : Base) (origin : List Field) (kind : List ℕ) → ArePlain origin → IsPrintable kind → Keeps (opening_from (kept_form base) origin kind) (opening_from (form_of base) origin kind) (kind_alone kind ∷ []) None
 unfolding opening opening_from
 from-keeps bases.Lines origin kind h k = both (both (origin-keeps bases.Lines origin h) (said (codes " ") refl)) (opening-keeps bases.Lines kind k)
 from-keeps bases.NamedLines origin kind h k = both (both (origin-keeps bases.NamedLines origin h) (said (codes " ") refl)) (opening-keeps bases.NamedLines kind k)
 from-keeps bases.Json origin kind h k = both (opening-keeps bases.Json kind k) (origin-keeps bases.Json origin h)
 
-heading-keeps : (base : Base) (origin : List Field) (kind : List ℕ) → ArePlain origin → IsPrintable kind → Keeps (heading (kept_form base) origin kind) (heading (form_of base) origin kind) (kind_alone kind ∷ []) false
+heading-keeps : (base : Base) (origin : List Field) (kind : List ℕ) → ArePlain origin → IsPrintable kind → Keeps (heading (kept_form base) origin kind) (heading (form_of base) origin kind) (kind_alone kind ∷ []) None
 heading-keeps base [] kind h k = opening-keeps base kind k
 heading-keeps base (f ∷ others) kind h k = from-keeps base (f ∷ others) kind h k
 
-aside-keeps : (base : Base) (aside : Option LastLine) → IfSome aside (λ line. IsPrintable (line_text line)) → Keeps (aside_text (kept_form base) aside) (aside_text (form_of base) aside) [] (is_there aside)
+aside-keeps : (base : Base) (aside : Option LastLine) → IfSome aside (λ line. IsPrintable (line_text line)) → Keeps (aside_text (kept_form base) aside) (aside_text (form_of base) aside) [] (option_map line_text aside)
 aside-keeps base None h = none
 aside-keeps bases.Lines (Some line) h = marked-aside (line_text line) h
 aside-keeps bases.NamedLines (Some line) h = marked-aside (line_text line) h
@@ -146,7 +152,7 @@ aside-keeps bases.Json (Some line) h = marked-aside (line_text line) h
 abbrev part_kinds : List Part → List (List ℕ)
 part_kinds parts = map (λ p. kind_alone p.kind) parts
 
-part-keeps : (base : Base) (p : Part) → IsPlainPart p → Keeps (part_text (kept_form base) p) (part_text (form_of base) p) (kind_alone p.kind ∷ []) false
+part-keeps : (base : Base) (p : Part) → IsPlainPart p → Keeps (part_text (kept_form base) p) (part_text (form_of base) p) (kind_alone p.kind ∷ []) None
 unfolding part_text
 part-keeps base p h = both (both (opening-keeps base p.kind h.kind) (fields-keep base p.fields h.fields)) (closing-keeps base)
 
@@ -155,59 +161,59 @@ unfolding labelled cells
 nothing-shown [] = refl
 nothing-shown (f ∷ others) = ap₂ (λ (b : Bool) (l : List ℕ). cond b [] (2 ∷ (codes ",\"" ++ f.name) ++ cells_from (0 / 2 ^ 32 % 2 ^ 26) all_paths f.value) ++ l) (ap (λ n. n == 0) (and_zero_l (name_bit (codes ",\"" ++ f.name)))) (nothing-shown others)
 
-lone-keeps : (p : Part) → IsPlainPart p → Keeps (part_text (form.Rows nothing_wanted) p) [] (kind_alone p.kind ∷ []) false
+lone-keeps : (p : Part) → IsPlainPart p → Keeps (part_text (form.Rows nothing_wanted) p) [] (kind_alone p.kind ∷ []) None
 unfolding part_text opening closing
 lone-keeps p h =
-    subst (λ l. Keeps ((kind_mark p.kind ++ l) ++ []) [] (kind_alone p.kind ∷ []) false) (sym (nothing-shown p.fields)) (both (both (marked-kind p.kind h.kind) none) none)
+    subst (λ l. Keeps ((kind_mark p.kind ++ l) ++ []) [] (kind_alone p.kind ∷ []) None) (sym (nothing-shown p.fields)) (both (both (marked-kind p.kind h.kind) none) none)
 
-lone-parts : (parts : List Part) → AllByRecursion IsPlainPart parts → Keeps (flat_map (part_text (form.Rows nothing_wanted)) parts) [] (part_kinds parts) false
+lone-parts : (parts : List Part) → AllByRecursion IsPlainPart parts → Keeps (flat_map (part_text (form.Rows nothing_wanted)) parts) [] (part_kinds parts) None
 lone-parts [] h = none
 lone-parts (p ∷ others) h = both (lone-keeps p h.0) (lone-parts others h.1)
 
-named-parts : (parts : List Part) → AllByRecursion IsPlainPart parts → Keeps (flat_map (λ p. codes " " ++ part_text form.KeptNamedLines p) parts) (flat_map (λ p. codes " " ++ part_text form.NamedLines p) parts) (part_kinds parts) false
+named-parts : (parts : List Part) → AllByRecursion IsPlainPart parts → Keeps (flat_map (λ p. codes " " ++ part_text form.KeptNamedLines p) parts) (flat_map (λ p. codes " " ++ part_text form.NamedLines p) parts) (part_kinds parts) None
 named-parts [] h = none
 named-parts (p ∷ others) h = both (both (said (codes " ") refl) (part-keeps bases.NamedLines p h.0)) (named-parts others h.1)
 
-more-parts : (parts : List Part) → AllByRecursion IsPlainPart parts → Keeps (flat_map (λ p. codes "," ++ part_text form.KeptJson p) parts) (flat_map (λ p. codes "," ++ part_text form.Json p) parts) (part_kinds parts) false
+more-parts : (parts : List Part) → AllByRecursion IsPlainPart parts → Keeps (flat_map (λ p. codes "," ++ part_text form.KeptJson p) parts) (flat_map (λ p. codes "," ++ part_text form.Json p) parts) (part_kinds parts) None
 more-parts [] h = none
 more-parts (p ∷ others) h = both (both (said (codes ",") refl) (part-keeps bases.Json p h.0)) (more-parts others h.1)
 
-listed-parts : (parts : List Part) → AllByRecursion IsPlainPart parts → Keeps (joined [] (codes ",") (part_text form.KeptJson) parts) (joined [] (codes ",") (part_text form.Json) parts) (part_kinds parts) false
+listed-parts : (parts : List Part) → AllByRecursion IsPlainPart parts → Keeps (joined [] (codes ",") (part_text form.KeptJson) parts) (joined [] (codes ",") (part_text form.Json) parts) (part_kinds parts) None
 listed-parts [] h = none
 listed-parts (p ∷ others) h = both (part-keeps bases.Json p h.0) (more-parts others h.1)
 
-parts-keep : (base : Base) (parts : List Part) → AllByRecursion IsPlainPart parts → Keeps (inside_text (kept_form base) parts) (inside_text (form_of base) parts) (part_kinds parts) false
+parts-keep : (base : Base) (parts : List Part) → AllByRecursion IsPlainPart parts → Keeps (inside_text (kept_form base) parts) (inside_text (form_of base) parts) (part_kinds parts) None
 unfolding inside_text
 parts-keep bases.Lines parts h = lone-parts parts h
 parts-keep bases.NamedLines parts h = both (both (said (codes " inside=") refl) (plain (decimal (length parts)) (number (length parts)))) (named-parts parts h)
 parts-keep bases.Json parts h =
-    subst (λ l. Keeps (inside_text form.KeptJson parts) (inside_text form.Json parts) l false) (append-nil (part_kinds parts))
+    subst (λ l. Keeps (inside_text form.KeptJson parts) (inside_text form.Json parts) l None) (append-nil (part_kinds parts))
     (both (said (codes ",\"inside\":") refl) (both (both (said (codes "[") refl) (listed-parts parts h)) (said (codes "]") refl)))
 
 abbrev pub inside_kinds : Option (List Part) → List (List ℕ)
 inside_kinds None = []
 inside_kinds (Some parts) = part_kinds parts
 
-inside-keeps : (base : Base) (inside : Option (List Part)) → IfSome inside (λ parts. AllByRecursion IsPlainPart parts) → Keeps (parts_text (kept_form base) inside) (parts_text (form_of base) inside) (inside_kinds inside) false
+inside-keeps : (base : Base) (inside : Option (List Part)) → IfSome inside (λ parts. AllByRecursion IsPlainPart parts) → Keeps (parts_text (kept_form base) inside) (parts_text (form_of base) inside) (inside_kinds inside) None
 inside-keeps base None h = none
 inside-keeps base (Some parts) h = parts-keep base parts h
 
 -- ---- the record
-last-keeps : (base : Base) (last : List Field) → ArePlain last → Keeps (last_text (kept_form base) last) (last_text (form_of base) last) [] false
+last-keeps : (base : Base) (last : List Field) → ArePlain last → Keeps (last_text (kept_form base) last) (last_text (form_of base) last) [] None
 last-keeps base [] h = none
 last-keeps bases.Lines (f ∷ others) h = none
 last-keeps bases.NamedLines (f ∷ others) h = none
 last-keeps bases.Json (f ∷ others) h = fields-keep bases.Json (f ∷ others) h
 
-or-false : (b : Bool) → (b || false) ≡ b
-or-false true = refl
-or-false false = refl
+or-none : (told : Option (List ℕ)) → or_told told None ≡ told
+or-none None = refl
+or-none (Some line) = refl
 
-pub record-keeps : (base : Base) (r : Printed) → IsPlain r → Keeps (record_text (kept_form base) r) (record_text (form_of base) r) (kind_alone r.kind ∷ inside_kinds r.inside) (is_there r.aside)
+pub record-keeps : (base : Base) (r : Printed) → IsPlain r → Keeps (record_text (kept_form base) r) (record_text (form_of base) r) (kind_alone r.kind ∷ inside_kinds r.inside) (option_map line_text r.aside)
 unfolding record_text
 record-keeps base r h =
-    subst (λ t. Keeps (record_text (kept_form base) r) (record_text (form_of base) r) (kind_alone r.kind ∷ inside_kinds r.inside) t) (or-false (is_there r.aside))
-    (subst (λ l. Keeps (record_text (kept_form base) r) (record_text (form_of base) r) (kind_alone r.kind ∷ l) (is_there r.aside || false)) (append-nil (inside_kinds r.inside))
+    subst (λ t. Keeps (record_text (kept_form base) r) (record_text (form_of base) r) (kind_alone r.kind ∷ inside_kinds r.inside) t) (or-none (option_map line_text r.aside))
+    (subst (λ l. Keeps (record_text (kept_form base) r) (record_text (form_of base) r) (kind_alone r.kind ∷ l) (or_told (option_map line_text r.aside) None)) (append-nil (inside_kinds r.inside))
     (both (both (both (heading-keeps base r.origin r.kind h.origin h.kind) (fields-keep base r.fields h.fields)) (aside-keeps base r.aside h.aside)) (both (inside-keeps base r.inside h.inside) (both (last-keeps base r.last h.last) (closing-keeps base)))))
 
 -- without its marks it is the record's own

@@ -1,16 +1,18 @@
 -- What a cell says of an object: it is a function of the member of that at the path of its column.
-use Rattle.std.specs.Prelude.{ℕ, ◌≡◌, ◌<◌, ◌^◌, ◌==◌, ◌&&◌, nat_le, not, Bool, true, false, List, [], ◌∷◌, ◌++◌, IfSome, bytes_eq, codes, if◌then◌else◌}
-use Rattle.std.specs.List.{list_all}
+use Rattle.std.specs.Prelude.{ℕ, ◌≡◌, ◌<◌, ◌^◌, ◌==◌, ◌&&◌, nat_le, not, Bool, true, false, List, [], ◌∷◌, ◌++◌, IfSome, Some, bytes_eq, codes, if◌then◌else◌}
+use Rattle.std.specs.List.{AllByRecursion, Contains, flat_map, list_all}
 use Rattle.std.specs.Net.Addr.{IsIpv4Addr, IsIpv6Addr, MatchIp}
 use Rattle.json.specs.Json.{Items, Json, Members, array, boolean, item, member, no_items, no_members, null, number, object, string}
 use Rattle.krb_der.specs.Octets.{AreOctets}
 use Rattle.krb_record.specs.Flows.{endpoint_text}
-use Rattle.krb_record.specs.Forms.{cell, is_mistaken, list_cell, string_of, true_or_false, value_text}
+use Rattle.krb_record.specs.Forms.{cell, is_mistaken, list_cell, or_empty, string_of, true_or_false, value_text}
 use Rattle.krb_record.specs.Text.{AllAreOctets}
-use Rattle.krb_record.specs.Values.{Address, Called, Field, FileName, Flags, Flow, Hex, Host, Principal, Quoted, Reason, Status, String, TicketFlags, Value, Word}
+use Rattle.krb_record.specs.Values.{Address, Called, Field, FileName, Flags, Flow, Hex, Host, Part, Principal, Printed, Quoted, Reason, Status, String, TicketFlags, Value, Word}
 use Rattle.krb_record.specs.declared.path.Path.{Path}
 use Rattle.krb_record.specs.declared.path.Path.TheVariants as paths
-use Rattle.krb_laws.specs.Json.{field_members, object_of}
+use Rattle.krb_laws.specs.Json.{field_members, json_of, object_of, part_json}
+use Rattle.krb_laws.specs.JsonLaws.{are_different, inside_name, member_names}
+use Rattle.krb_choice.specs.Choices.{Inside, Kind, Member, kind_alone, own_cell, part_cell, shown, shown_part}
 
 -- ---- members of objects
 -- the first one of a name, or null
@@ -102,6 +104,15 @@ line_part (Flow transport source target) paths.Source = endpoint_text source
 line_part (Flow transport source target) paths.Target = endpoint_text target
 line_part value path = value_text true value
 
+-- what a value says: of the name of a file nothing is escaped that could be mistaken
+abbrev pub name_said : Json → List ℕ
+name_said (string text) = or_empty text
+name_said json = codes "-"
+
+abbrev pub said_of : Value → Path → Json → List ℕ
+said_of (FileName octets) path json = name_said json
+said_of value path json = said (line_part value path) json
+
 -- ---- values
 -- 20 to 7E but `\`, and none of the texts that cells have of no string
 abbrev pub is_word : List ℕ → Bool
@@ -110,13 +121,13 @@ is_word text = list_all (λ c. nat_le 0x20 c && nat_le c 0x7E && not (c == 0x5C)
 abbrev pub IsWord : List ℕ → Type 0
 IsWord text = is_word text ≡ true
 
--- octets are octets, and words are words; so is the name of a file, in which nothing is escaped that could be mistaken
+-- octets are octets, and words are words
 abbrev pub Speaks : Value → Type 0
 Speaks (Status n) = n < 2 ^ 32
 Speaks (Reason n name) = IsWord name
 Speaks (String octets) = AreOctets octets
 Speaks (Quoted octets) = AreOctets octets
-Speaks (FileName octets) = AreOctets octets × (is_mistaken octets ≡ false)
+Speaks (FileName octets) = AreOctets octets
 Speaks (Word text) = IsWord text
 Speaks (Hex octets) = AreOctets octets
 Speaks (Flags registry bits) = AreOctets bits.1
@@ -128,13 +139,63 @@ Speaks (Called n name) = IfSome name IsWord
 Speaks (Host address) = MatchIp address IsIpv4Addr IsIpv6Addr
 Speaks value = Unit {0}
 
+-- ---- a cell says what the object says
 -- the object of a field alone
 abbrev pub object_with : Field → Json
 object_with field = object_of (field_members field)
 
--- A cell of a field is what the member at its path says.
+-- The cell of a field is what the member at its path says.
 abbrev pub CellsSayMembers : Type 0
-CellsSayMembers = (path : Path) (field : Field) → Speaks field.value → cell path field.value ≡ said (line_part field.value path) (member_at path field.name (object_with field))
+CellsSayMembers = (path : Path) (field : Field) → Speaks field.value → cell path field.value ≡ said_of field.value path (member_at path field.name (object_with field))
+
+-- the names of the members of a record differ; so do those of one inside
+abbrev pub names_beside : List Field → List (List ℕ)
+names_beside fields = flat_map (λ (field : Field). member_names field.name) fields
+
+abbrev pub NamesDiffer : Printed → Type 0
+NamesDiffer r = are_different (codes "kind" ∷ (names_beside (r.origin ++ r.fields) ++ (inside_name r.inside ++ names_beside r.last))) ≡ true
+
+abbrev pub PartNamesDiffer : Part → Type 0
+PartNamesDiffer part = are_different (codes "kind" ∷ names_beside part.fields) ≡ true
+
+-- In a row of a record it is what the object of the record says.
+abbrev pub SaysObject : Printed → Type 0
+SaysObject r =
+    (path : Path) (field : Field) → Contains (r.origin ++ r.fields ++ r.last) field → Speaks field.value
+    → own_cell (Member field.name path) (shown r) ≡ said_of field.value path (member_at path field.name (json_of r))
+
+abbrev pub SaysPart : Part → Type 0
+SaysPart part =
+    (path : Path) (field : Field) → Contains part.fields field → Speaks field.value
+    → part_cell (Member field.name path) (Some (shown_part part)) ≡ said_of field.value path (member_at path field.name (part_json part))
+
+abbrev pub CellsSayObjects : Type 0
+CellsSayObjects = (r : Printed) → NamesDiffer r → SaysObject r
+
+abbrev pub CellsSayParts : Type 0
+CellsSayParts = (part : Part) → PartNamesDiffer part → SaysPart part
+
+-- The kind of a record has no blank, and is a word without commas.
+pub record IsKind (kind : List ℕ) : Type 0 where
+  pub alone : kind_alone kind ≡ kind
+  pub word : IsWord kind
+  pub comma : list_all (λ c. not (c == 0x2C)) kind ≡ true
+
+abbrev pub KindsSayObjects : Type 0
+KindsSayObjects = (r : Printed) → IsKind r.kind → own_cell Kind (shown r) ≡ said [] (member_of (codes "kind") (json_of r))
+
+-- Of what is inside a cell has the kinds, as a list of strings.
+abbrev pub kinds_in : Items → List (List ℕ)
+kinds_in no_items = []
+kinds_in (item json others) = item_said (member_of (codes "kind") json) ∷ kinds_in others
+
+abbrev pub kinds_said : Json → List ℕ
+kinds_said (array items) = list_cell (kinds_in items)
+kinds_said json = codes "-"
+
+abbrev pub InsideSaysObjects : Type 0
+InsideSaysObjects =
+    (r : Printed) (parts : List Part) → NamesDiffer r → r.inside ≡ Some parts → AllByRecursion (λ (p : Part). IsKind p.kind) parts → own_cell Inside (shown r) ≡ kinds_said (member_of (codes "inside") (json_of r))
 
 -- ---- members of one type that are no objects; null is of each type
 pub data MemberType : Type 0 where
@@ -165,8 +226,13 @@ is_of NumberLists (array items) = are_numbers items
 is_of StringLists (array items) = are_strings items
 is_of type json = false
 
+-- the name of a file is none of the texts that cells have of no string
+abbrev pub IsUnmistaken : Value → Type 0
+IsUnmistaken (FileName octets) = is_mistaken octets ≡ false
+IsUnmistaken value = Unit {0}
+
 -- Two members of one type that differ have cells that differ.
 abbrev pub MembersAreApart : Type 0
 MembersAreApart =
-    (type : MemberType) (path : Path) (one other : Field) → Speaks one.value → Speaks other.value → is_of type (member_at path one.name (object_with one)) ≡ true → is_of type (member_at path other.name (object_with other)) ≡ true
+    (type : MemberType) (path : Path) (one other : Field) → Speaks one.value → Speaks other.value → IsUnmistaken one.value → IsUnmistaken other.value → is_of type (member_at path one.name (object_with one)) ≡ true → is_of type (member_at path other.name (object_with other)) ≡ true
     → cell path one.value ≡ cell path other.value → member_at path one.name (object_with one) ≡ member_at path other.name (object_with other)

@@ -4,3 +4,5 @@ pub mod Listing
 pub mod Messages
 pub mod Records
 pub mod Cells
+pub mod Examples
+pub mod Says

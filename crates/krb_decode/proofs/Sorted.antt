@@ -1,5 +1,5 @@
 -- The lines of texts one after another.
-use Rattle.std.proofs.Common.{◌≡◌, ◌∙◌, ℕ, zero, suc, ◌+◌, ◌-◌, ◌<◌, ◌≤◌, ◌==◌, Bool, true, false, List, [], ◌∷◌, ◌++◌, get_or, length, take, drop, take-append-drop, Option, Some, None, cond, append-nil, sym, refl, ap, subst, append_assoc, length-take, arith}
+use Rattle.std.proofs.Common.{◌≡◌, ◌∙◌, ℕ, zero, suc, ◌+◌, ◌-◌, ◌≤◌, ◌==◌, Bool, true, false, List, [], ◌∷◌, ◌++◌, get_or, length, take, drop, take-append-drop, Option, Some, None, cond, append-nil, sym, refl, ap, subst, append_assoc, arith}
 use Rattle.std.specs.Prelude.{◌&&◌, ◌||◌, not, filter, flat_map, slice_get}
 use Rattle.std.specs.Option.{unwrap_or}
 use Rattle.std.proofs.Math.Seq.{take-add}

@@ -1,12 +1,12 @@
 -- What a writer that sorts has of a text after more of it.
-use Rattle.std.proofs.Common.{◌≡◌, ◌∙◌, ℕ, zero, suc, ◌<◌, ◌==◌, Bool, true, false, List, [], ◌∷◌, ◌++◌, length, take, Option, Some, None, Result, Ok, Err, cond, append-nil, sym, refl, ap, subst, arith}
-use Rattle.std.specs.Prelude.{All, ◌||◌, ◌&&◌}
+use Rattle.std.proofs.Common.{◌≡◌, ◌∙◌, ℕ, zero, suc, ◌==◌, Bool, true, false, List, [], ◌∷◌, ◌++◌, Option, cond, append-nil, sym, refl, ap, subst, arith}
+use Rattle.std.specs.Prelude.{All, ◌||◌}
 use Rattle.std.specs.Io.KnownBytes.{Appends}
 use Rattle.std.proofs.KnownBytes.{Appends-nil, Appends-trans}
 use Rattle.std.proofs.Math.Logic.{∥∥₁_map}
 use Rattle.std.proofs.lemmas.List.Elements.{All-append}
 use Rattle.krb_decode.specs.Sorted.{begun_after, is_any, is_of_message, message_lines, told_lines, written_of}
-use Rattle.krb_decode.specs.inner.Sorter.{IsLine, Sorts, are_of_messages, goes_to_message, told_begun, taken, within_after}
+use Rattle.krb_decode.specs.inner.Sorter.{IsLine, Sorts, are_of_messages, goes_to_message, told_begun, within_after}
 use Rattle.krb_decode.proofs.Sorted.{IsReady, are-written, begun-append, line-begun, message-more, message-same, told-append, told-more}
 
 -- nothing was given

@@ -1,10 +1,10 @@
 //! Texts of lines of which some are written, and each other one is told.
 
-ghost use Rattle.std.specs.Prelude.{◌≡◌, ◌≤◌, ◌++◌, ℕ, true, false, List, [], None, Option, Some, All, OnErr, length, take};
+ghost use Rattle.std.specs.Prelude.{◌≡◌, ◌≤◌, ◌++◌, ℕ, true, false, List, [], Option, Some, All, length, take};
 ghost use Rattle.std.specs.Io.{WritesAtMost};
 ghost use Rattle.std.specs.Io.KnownBytes.{Appends};
 ghost use Rattle.krb_decode.specs.Sorted.{is_any, message_lines, told_lines};
-ghost use Rattle.krb_decode.specs.Sorters.{key, numbers_of};
+ghost use Rattle.krb_decode.specs.Sorters.{key};
 ghost use Rattle.krb_decode.specs.inner.Sorter.{IsLine, Sorts, Sorts-prop, are_of_messages, goes_to_message, taken, within_after};
 
 use crate::given::{Before, Given, Octets};

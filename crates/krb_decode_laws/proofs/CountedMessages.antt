@@ -1,16 +1,15 @@
 -- How the decoding of a capture ends, and how many messages it has then.
-use Rattle.std.proofs.Common.{◌≡◌, ℕ, zero, suc, ◌+◌, ◌-◌, ◌^◌, ◌<◌, ◌≤◌, Bool, true, false, cond, if◌then◌else◌, List, [], ◌∷◌, ◌++◌, length, map, Option, Some, None, refl, sym, ◌∙◌, ap, ap₂, subst, arith, length-append}
+use Rattle.std.proofs.Common.{◌≡◌, ℕ, ◌+◌, ◌-◌, ◌^◌, ◌≤◌, Bool, true, false, cond, List, [], ◌∷◌, ◌++◌, length, Option, Some, None, refl, sym, ◌∙◌, ap, ap₂, arith, length-append}
 use Rattle.std.specs.Prelude.{min}
-use Rattle.std.specs.List.{AllByRecursion, Contains, filter, flat_map}
+use Rattle.std.specs.List.{AllByRecursion, Contains, filter}
 use Rattle.std.proofs.lemmas.Grind.{flat_map-append}
 use Rattle.std.proofs.lemmas.List.{length-map}
 use Rattle.krb_file.specs.Fields.{Fault}
 use Rattle.krb_json.specs.Lines.{message_text}
 use Rattle.krb_json.specs.Unencrypted.{unencrypted_in}
 use Rattle.krb_msg.specs.Views.{message_of_der}
-use Rattle.krb_msg.specs.declared.message.Message.{Message}
 use Rattle.krb_packet.specs.Captures.{packets}
-use Rattle.krb_packet.specs.Fragments.{contents_of_whole, nested_step, unread}
+use Rattle.krb_packet.specs.Fragments.{contents_of_whole, nested_step}
 use Rattle.krb_packet.specs.declared.contents.Contents.{Contents}
 use Rattle.krb_packet.specs.declared.contents.Contents.TheVariants as contents
 use Rattle.krb_packet.specs.declared.contents.Datagram.{Datagram}
@@ -19,23 +18,22 @@ use Rattle.krb_packet.specs.declared.fragments.Reassembled.{Reassembled}
 use Rattle.krb_packet.specs.declared.packet.Packet.{Packet}
 use Rattle.krb_record.specs.declared.capture.CaptureCounts.{CaptureCounts}
 use Rattle.krb_record.specs.declared.capture_origin.CaptureOrigin.{CaptureOrigin}
-use Rattle.krb_record.specs.declared.form.Form.TheVariants.{Lines, NamedLines}
-use Rattle.krb_capture.specs.Captures.{Finding, Progress, Settings, Taken, all_counts, and_counted, at_first, completed, completed_event, contents_event, contents_in, contents_taken, counted_each, datagram_taken, end_taken, error_event, lines_of, packet_taken, packet_told, segment_event, segment_taken, unread_taken, whole_event, whole_taken, with_packet}
+use Rattle.krb_capture.specs.Captures.{Finding, Progress, Settings, Taken, all_counts, at_first, completed, completed_event, contents_event, contents_in, contents_taken, counted_each, datagram_taken, end_taken, error_event, packet_taken, packet_told, segment_event, segment_taken, unread_taken, whole_event, whole_taken, with_packet}
 use Rattle.krb_capture.specs.Counts.{is_clean}
 use Rattle.krb_capture.specs.Flows.{due_with, service_of}
-use Rattle.krb_capture.specs.Found.{Begun, Failed, Faulty, Found, Joined, Missing, Password, Sent, Unread, Whole, counted}
+use Rattle.krb_capture.specs.Found.{Begun, Failed, Faulty, Joined, Missing, Password, Sent, Unread, Whole, counted}
 use Rattle.krb_capture.specs.declared.flow.Due.{Due}
 use Rattle.krb_capture.specs.declared.flow.Service.{Service}
 use Rattle.krb_capture_run.specs.Captures.{after_packets, capture_run_end, run_end}
 use Rattle.krb_capture_run.specs.Decoded.{Ends, decoded_capture, decoding}
 use Rattle.krb_capture_run.specs.Laws.{capture_told, told_after}
-use Rattle.krb_decode.specs.Sorted.{lines_after, message_lines, sorted_end, told_lines}
+use Rattle.krb_decode.specs.Sorted.{is_any, lines_after, message_lines, sorted_end, told_lines}
 use Rattle.krb_run.specs.Records.{text_of}
 use Rattle.krb_run.specs.declared.run.RunEnd.{RunEnd}
 use Rattle.krb_run.specs.declared.run.RunEnd.TheVariants as run
 use Rattle.krb_tool_laws.specs.Listings.{AreRead}
 use Rattle.krb_decode_laws.specs.Captures.{CapturesEndAsTold, IsTold, counts_of, decoded_by, message_in, messages_in, sealed_in}
-use Rattle.krb_decode_laws.specs.Messages.{is_sealed, is_sealed_by}
+use Rattle.krb_decode_laws.specs.Messages.{is_sealed_by}
 use Rattle.krb_decode_laws.proofs.DecodedCaptures.{Premises, closing_line, end-untold, refusal-told}
 use Rattle.krb_decode_laws.proofs.Findings.{all-wanted}
 use Rattle.krb_decode_laws.proofs.FoundLines.{texts}
@@ -224,12 +222,12 @@ never-at-once p settings file are nothing at = by (packets file).end at (end-unt
     by None e untold = not-at-once (is_clean (all_counts (end_taken its progress).progress)) e
     by (Some fault) e untold = refusal-told p settings.profile settings.limit settings.port None fault progress untold
 
-pub clean-end : (end : RunEnd) → (end ≡ run.RefusedAtOnce → ⊥) → sorted_end end [] ≡ run.Clean
+pub clean-end : (end : RunEnd) → (end ≡ run.RefusedAtOnce → ⊥) → sorted_end end false ≡ run.Clean
 clean-end run.Clean never = refl
 clean-end run.Refused never = refl
 clean-end run.RefusedAtOnce never = absurd (never refl)
 
-pub silent-end : (end : RunEnd) (told : List (List ℕ)) → sorted_end end told ≡ run.Clean → told ≡ []
+pub silent-end : (end : RunEnd) (told : List (List ℕ)) → sorted_end end (is_any told) ≡ run.Clean → told ≡ []
 silent-end run.Clean [] e = refl
 silent-end run.Refused [] e = refl
 silent-end run.RefusedAtOnce told e = absurd cc
@@ -238,7 +236,7 @@ silent-end run.Refused (line ∷ told) e = absurd cc
 
 pub captures_end_as_told : Premises → CapturesEndAsTold
 captures_end_as_told p settings file are = record {
-  clean = λ nothing. ap (sorted_end (decoded_by settings None file).end) nothing ∙ clean-end (decoded_by settings None file).end (never-at-once p settings file are nothing);
+  clean = λ nothing. ap (λ told. sorted_end (decoded_by settings None file).end (is_any told)) nothing ∙ clean-end (decoded_by settings None file).end (never-at-once p settings file are nothing);
   silent = silent-end (decoded_by settings None file).end (told_lines (text_of (decoded_by settings None file)));
   counted = counted-lines p settings file are;
 }

@@ -1,5 +1,5 @@
 -- The packets of a file are counted: each has the number after that of the one before it.
-use Rattle.std.proofs.Common.{◌≡◌, ℕ, zero, suc, ◌+◌, ◌-◌, Bool, true, false, List, [], ◌∷◌, length, Option, Some, None, Result, Ok, Err, refl, sym, subst, arith}
+use Rattle.std.proofs.Common.{◌≡◌, ℕ, zero, suc, ◌+◌, ◌-◌, Bool, true, false, List, [], ◌∷◌, length, Option, Some, None, Result, Ok, Err, refl}
 use Rattle.krb_der.specs.Octets.{when}
 use Rattle.std.specs.Int.{w16, w32}
 use Rattle.krb_file.specs.FieldReaders.{skipped_at}

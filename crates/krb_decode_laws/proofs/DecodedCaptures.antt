@@ -1,5 +1,5 @@
 -- What is decoded of a capture: the lines of what is found in it, and what is said of its end.
-use Rattle.std.proofs.Common.{◌≡◌, ℕ, zero, suc, ◌+◌, ◌-◌, ◌==◌, Bool, true, false, if◌then◌else◌, List, [], ◌∷◌, ◌++◌, length, take, Option, Some, None, IfSome, codes, refl, sym, ◌∙◌, ap, ap₂, subst, append_assoc, append-nil}
+use Rattle.std.proofs.Common.{◌≡◌, ℕ, zero, suc, ◌-◌, ◌==◌, Bool, true, false, if◌then◌else◌, List, [], ◌∷◌, ◌++◌, length, take, Option, Some, None, IfSome, codes, refl, sym, ◌∙◌, ap, subst, append_assoc, append-nil}
 use Rattle.std.specs.Prelude.{decimal}
 use Rattle.std.specs.List.{AllByRecursion}
 use Rattle.krb_der.specs.Octets.{AreOctets}
@@ -9,41 +9,40 @@ use Rattle.krb_file.specs.declared.field_path.FileItem.TheVariants as places
 use Rattle.krb_packet.specs.Captures.{packets}
 use Rattle.krb_packet.specs.declared.packet.Packet.{Packet}
 use Rattle.krb_record.specs.Captures.{capture_end_record, count_fields, four_counts, refused_capture, told_counts}
-use Rattle.krb_record.specs.Forms.{aside_text, closing, field, fields_text, heading, opening, record_line, record_text}
+use Rattle.krb_record.specs.Forms.{closing, field, fields_text, heading, opening, record_line, record_text}
 use Rattle.krb_record.specs.Laws.{CaptureEndIsOneLine, CaptureRefusalIsOneLine, IsOneLine}
 use Rattle.krb_record.specs.Refusals.{refused_file}
 use Rattle.krb_record.specs.Text.{IsPrintable, line_feed}
-use Rattle.krb_record.specs.Values.{Field, Printed, printed}
+use Rattle.krb_record.specs.Values.{Field, Printed}
 use Rattle.krb_record.specs.declared.capture.CaptureCounts.{CaptureCounts}
 use Rattle.krb_record.specs.declared.extent.Extent.{Extent}
 use Rattle.krb_record.specs.declared.form.Base.TheVariants as bases
 use Rattle.krb_record.specs.declared.form.Form.TheVariants.{Lines, NamedLines}
 use Rattle.krb_record.specs.declared.told.ToldCounts.{ToldCounts}
-use Rattle.krb_record.proofs.Printable.{Prints, join, word}
+use Rattle.krb_record.proofs.Printable.{join, word}
 use Rattle.krb_source.specs.declared.file_why.FileWhy.{FileWhy}
 use Rattle.krb_text_laws.proofs.Printable.{number}
 use Rattle.krb_capture.specs.Captures.{Finding, Progress, Settings, all_counts, at_first, end_taken, end_text, happened_each, lines_of, packet_told, refusal_text}
 use Rattle.krb_capture.specs.Counts.{is_clean}
-use Rattle.krb_capture.specs.Decoded.{decoded_end, decoded_refusal, end_line, refusal_line}
+use Rattle.krb_capture.specs.Decoded.{decoded_end, decoded_refusal}
 use Rattle.krb_capture.specs.Flows.{moment_due}
-use Rattle.krb_capture.specs.Found.{found_happened, found_text}
-use Rattle.krb_capture.specs.Happened.{end_counts, end_lines, no_counts_told}
+use Rattle.krb_capture.specs.Found.{found_text}
+use Rattle.krb_capture.specs.Happened.{end_lines, no_counts_told}
 use Rattle.krb_capture.specs.Labels.{Label}
-use Rattle.krb_capture.specs.declared.happened.Happened.{Happened}
-use Rattle.krb_capture_run.specs.Captures.{after_packets, last_records, lines_from}
-use Rattle.krb_capture_run.specs.Decoded.{Ending, Ends, Next, decoded_capture, decoding, ending, ending_lines, few_text, followed, missing, missing_text, none_text}
+use Rattle.krb_capture_run.specs.Captures.{after_packets, lines_from}
+use Rattle.krb_capture_run.specs.Decoded.{Ending, Ends, Next, decoded_capture, decoding, ending, ending_lines, few_text, followed, missing, none_text}
 use Rattle.krb_capture_run.specs.Laws.{last_line}
 use Rattle.krb_decode.specs.Sorted.{is_of_message, told_lines}
 use Rattle.krb_run.specs.Extents.{extent_of}
 use Rattle.krb_run.specs.Paths.{field_path}
 use Rattle.krb_run.specs.Records.{text_of}
 use Rattle.krb_tool_laws.specs.Listings.{AreRead}
-use Rattle.krb_tool_laws.proofs.CaptureFindings.{AreFindings, IsFinding, IsProgress, after_is, first_is, told_are}
+use Rattle.krb_tool_laws.proofs.CaptureFindings.{AreFindings, IsProgress, after_is, first_is, told_are}
 use Rattle.krb_tool_laws.proofs.FoundParts.{Rules}
 use Rattle.krb_tool_laws.proofs.Labelled.{before}
 use Rattle.krb_tool_laws.proofs.ListedFiles.{path_octets}
 use Rattle.krb_tool_laws.proofs.PacketOctets.{IsPacket, packets_are}
-use Rattle.krb_decode_laws.proofs.FoundLines.{RecordLines, decoding_label, each-sorted, front, texts}
+use Rattle.krb_decode_laws.proofs.FoundLines.{RecordLines, each-sorted, front, texts}
 use Rattle.krb_decode_laws.proofs.SortedTexts.{Sorted, a-told, both, none, told-both, told-line}
 
 pub record Premises : Type 0 where

@@ -1,5 +1,5 @@
 -- What is found in a capture, whatever its label.
-use Rattle.std.proofs.Common.{◌≡◌, ℕ, Bool, List, [], ◌∷◌, ◌++◌, map, Option, Some, None, refl, sym, ◌∙◌, ap, ap₂, append_assoc}
+use Rattle.std.proofs.Common.{◌≡◌, ℕ, List, [], ◌∷◌, ◌++◌, Option, None, refl, ◌∙◌, ap}
 use Rattle.std.specs.List.{filter, flat_map}
 use Rattle.std.proofs.lemmas.Grind.{flat_map-append}
 use Rattle.std.proofs.lemmas.List.Elements.{filter-append}
@@ -7,7 +7,7 @@ use Rattle.std.proofs.lemmas.List.Folds.{flat_map-map}
 use Rattle.krb_file.specs.Fields.{Fault}
 use Rattle.krb_json.specs.Lines.{line_of, message_text}
 use Rattle.krb_packet.specs.declared.packet.Packet.{Packet}
-use Rattle.krb_capture.specs.Captures.{Finding, Progress, Settings, end_taken, packet_taken, packet_told}
+use Rattle.krb_capture.specs.Captures.{Finding, Progress, Settings, packet_taken, packet_told}
 use Rattle.krb_capture.specs.Labels.{Label}
 use Rattle.krb_capture_run.specs.Decoded.{Ending, Ends, Next}
 use Rattle.krb_capture_run.specs.Laws.{told_after}

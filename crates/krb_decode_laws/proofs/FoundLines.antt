@@ -1,8 +1,7 @@
 -- The lines of what is found in a capture, as it is decoded.
-use Rattle.std.proofs.Common.{◌≡◌, ℕ, ◌+◌, Bool, true, false, cond, if◌then◌else◌, List, [], ◌∷◌, ◌++◌, map, Option, Some, None, codes, refl, sym, ◌∙◌, ap, ap₂, subst, append_assoc}
-use Rattle.std.specs.Prelude.{decimal}
+use Rattle.std.proofs.Common.{◌≡◌, ℕ, ◌+◌, Bool, true, false, cond, if◌then◌else◌, List, [], ◌∷◌, ◌++◌, map, Option, Some, None, codes, refl, sym, ◌∙◌, ap, subst, append_assoc}
 use Rattle.std.specs.Option.{option_and_then}
-use Rattle.std.specs.List.{AllByRecursion, Contains, filter, flat_map}
+use Rattle.std.specs.List.{AllByRecursion, Contains, filter}
 use Rattle.std.proofs.lemmas.Grind.{flat_map-append}
 use Rattle.std.proofs.lemmas.List.{map-append}
 use Rattle.std.proofs.lemmas.List.Elements.{filter-append}
@@ -17,7 +16,7 @@ use Rattle.krb_judge.specs.Paths.{element_path, field_path}
 use Rattle.krb_judge.specs.declared.locating.names.Names.{Names}
 use Rattle.krb_json.specs.Laws.{TextsAreJson}
 use Rattle.krb_json.specs.Lines.{message_text}
-use Rattle.krb_json.specs.Unencrypted.{begin_with_zero, first_of, is_encrypted_data, unencrypted, unencrypted_fields, unencrypted_in, unencrypted_items}
+use Rattle.krb_json.specs.Unencrypted.{first_of, unencrypted, unencrypted_fields, unencrypted_in, unencrypted_items}
 use Rattle.krb_json.proofs.Printable.{printable-kind, printable-name}
 use Rattle.krb_record.specs.Captures.{captured, joined_line, last_fields, lost_record, origin_fields, unread_line, unread_record}
 use Rattle.krb_record.specs.Forms.{ending, heading, labelled, opening_from, origin_text, record_line, record_text}
@@ -34,9 +33,9 @@ use Rattle.krb_text_laws.proofs.Printable.{number}
 use Rattle.krb_source.specs.declared.unread_why.UnreadWhy.{UnreadWhy}
 use Rattle.krb_capture.specs.Captures.{Finding, lines_of}
 use Rattle.krb_capture.specs.Decoded.{decoded_by, not_encrypted}
-use Rattle.krb_capture.specs.Found.{Begun, Failed, Faulty, Found, Joined, Missing, Password, Sent, Unread, Whole, found_line, listed_line}
+use Rattle.krb_capture.specs.Found.{Begun, Failed, Faulty, Found, Joined, Missing, Password, Sent, Unread, Whole, found_line}
 use Rattle.krb_capture.specs.Labels.{Label, is_wanted, of_decoding}
-use Rattle.krb_tool_laws.proofs.CaptureFindings.{AreFindings, IsFinding}
+use Rattle.krb_tool_laws.proofs.CaptureFindings.{AreFindings}
 use Rattle.krb_tool_laws.proofs.FoundParts.{IsFound}
 use Rattle.krb_tool_laws.proofs.Labelled.{before}
 use Rattle.krb_decode_laws.specs.Captures.{IsTold, message_in, messages_in, sealed_in}

@@ -1,10 +1,14 @@
+pub mod BackAgain
+pub mod CacheTickets
 pub mod CountedMessages
 pub mod CountedPackets
 pub mod DecodedCaptures
 pub mod Findings
 pub mod FoundLines
+pub mod InputEnds
 pub mod ListedMessages
 pub mod OnePacket
 pub mod SortedTexts
 pub mod StreamEnds
 pub mod StreamLines
+pub mod WrittenLines

@@ -1,21 +1,18 @@
 -- What is decoded of a capture is its listing.
-use Rattle.std.proofs.Common.{◌≡◌, ℕ, List, [], ◌++◌, Option, None, refl, sym, ◌∙◌, ap, subst}
-use Rattle.std.specs.List.{AllByRecursion, filter, flat_map}
-use Rattle.krb_json.specs.Lines.{line_of}
+use Rattle.std.proofs.Common.{◌≡◌, ℕ, List, [], Option, None, sym, ◌∙◌, ap, subst}
+use Rattle.std.specs.List.{AllByRecursion, filter}
 use Rattle.krb_packet.specs.Captures.{packets}
-use Rattle.krb_record.specs.Labels.{no_label}
-use Rattle.krb_record.specs.declared.form.Form.TheVariants.{NamedLines}
 use Rattle.krb_capture.specs.Captures.{Finding, Settings, at_first, lines_of}
-use Rattle.krb_capture_run.specs.Decoded.{Ends, decoded_capture}
+use Rattle.krb_capture_run.specs.Decoded.{Ends}
 use Rattle.krb_capture_run.specs.Laws.{capture_told}
 use Rattle.krb_decode.specs.Sorted.{message_lines}
 use Rattle.krb_run.specs.Records.{text_of}
-use Rattle.krb_tool_laws.specs.Listings.{AreRead, ArePrintedLines}
-use Rattle.krb_decode_laws.specs.Captures.{DecodedIsPrinted, DecodedIsTheListing, IsTold, decoded_by, sealed_in}
-use Rattle.krb_decode_laws.proofs.DecodedCaptures.{Premises, closing_of, decoded-sorted, found-sorted, found_in, found_of, good-of, rest-sorted, text-parts}
+use Rattle.krb_tool_laws.specs.Listings.{AreRead}
+use Rattle.krb_decode_laws.specs.Captures.{DecodedIsTheListing, IsTold, decoded_by}
+use Rattle.krb_decode_laws.proofs.DecodedCaptures.{Premises, closing_of, decoded-sorted, found-sorted, found_of, good-of, rest-sorted, text-parts}
 use Rattle.krb_decode_laws.proofs.Findings.{all-wanted, found-told, same-found, sealed_lines, texts-lines}
 use Rattle.krb_decode_laws.proofs.FoundLines.{all-left, decoding_label, each-told, texts, wanted}
-use Rattle.krb_decode_laws.proofs.SortedTexts.{Sorted, both, none, sorted-messages, sorted-printed}
+use Rattle.krb_decode_laws.proofs.SortedTexts.{Sorted, both, none, sorted-messages}
 
 module _ (p : Premises) (settings : Settings) where
   -- what is found in a file, of a packet or of all
@@ -44,6 +41,3 @@ decoded_is_the_listing p settings file are = record {
   messages = messages-are p settings None file are ∙ ap sealed_lines (all-wanted (found p settings None file) ∙ found-is p settings file);
   others = subst (AllByRecursion (IsTold (text_of (decoded_by settings None file)))) (found-is p settings file) (all-told p settings file are);
 }
-
-pub decoded_is_printed : Premises → DecodedIsPrinted
-decoded_is_printed p settings packet file are = sorted-printed (text_of (decoded_by settings packet file)) (texts packet (found p settings packet file)) (sorted p settings packet file are)

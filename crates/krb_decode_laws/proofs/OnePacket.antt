@@ -1,7 +1,7 @@
 -- What is decoded of one packet after another.
-use Rattle.std.proofs.Common.{◌≡◌, ℕ, zero, suc, ◌+◌, ◌-◌, ◌<◌, ◌≤◌, ◌==◌, nat_lt, inl, inr, Bool, true, false, cond, if◌then◌else◌, List, [], ◌∷◌, ◌++◌, length, take, Option, Some, None, refl, sym, ◌∙◌, ap, ap₂, subst, arith, append-nil}
+use Rattle.std.proofs.Common.{◌≡◌, ℕ, zero, suc, ◌+◌, ◌-◌, ◌<◌, ◌≤◌, ◌==◌, nat_lt, inl, inr, true, false, cond, if◌then◌else◌, List, [], ◌∷◌, ◌++◌, length, take, Option, Some, None, refl, sym, ◌∙◌, ap, ap₂, subst, arith, append-nil}
 use Rattle.std.specs.List.{AllByRecursion, filter, flat_map, range_with_len}
-use Rattle.std.proofs.lemmas.Bool.{cases_lt, ltb-true, ne_eqb}
+use Rattle.std.proofs.lemmas.Bool.{cases_lt, ne_eqb}
 use Rattle.std.proofs.lemmas.Bool.Decides.{nat_tests}
 use Rattle.std.proofs.lemmas.List.Elements.{filter-append}
 use Rattle.krb_file.specs.Fields.{Fault}
@@ -9,10 +9,9 @@ use Rattle.krb_packet.specs.Captures.{packets}
 use Rattle.krb_packet.specs.declared.packet.Packet.{Packet}
 use Rattle.krb_capture.specs.Captures.{Finding, Progress, Settings, Taken, at_first, end_taken, packet_told}
 use Rattle.krb_capture_laws.proofs.Ordered.{OfLast, end-of, packet-of}
-use Rattle.krb_capture_run.specs.Decoded.{Ending, Ends, Next, ending, followed}
+use Rattle.krb_capture_run.specs.Decoded.{Ending, Ends, Next, ending}
 use Rattle.krb_decode.specs.Sorted.{message_lines}
 use Rattle.krb_run.specs.Records.{text_of}
-use Rattle.krb_tool_laws.specs.Listings.{AreRead}
 use Rattle.krb_decode_laws.specs.Captures.{PacketsAreTheCapture, decoded_by}
 use Rattle.krb_decode_laws.proofs.CountedPackets.{AreCounted, packets_are_counted}
 use Rattle.krb_decode_laws.proofs.DecodedCaptures.{Premises, end_found, found_in}

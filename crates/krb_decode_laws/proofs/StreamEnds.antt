@@ -1,5 +1,5 @@
 -- How the decoding of a stream that goes on ends, and that going on changes nothing if nothing is told.
-use Rattle.std.proofs.Common.{◌≡◌, ℕ, zero, suc, ◌+◌, Bool, true, false, cond, List, [], ◌∷◌, ◌++◌, length, map, Option, Some, None, refl, sym, ◌∙◌, ap, ap₂, subst, append-nil, append_assoc, arith}
+use Rattle.std.proofs.Common.{◌≡◌, ℕ, ◌+◌, cond, List, [], ◌∷◌, ◌++◌, length, map, Option, Some, None, refl, sym, ◌∙◌, ap, ap₂, append-nil, append_assoc, arith}
 use Rattle.std.specs.List.{AllByRecursion, Contains, filter, flat_map}
 use Rattle.std.proofs.lemmas.List.{length-map}
 use Rattle.krb_convert.specs.Decoding.{All, AllAreEncrypted, decoded, ending_at}
@@ -8,7 +8,6 @@ use Rattle.krb_convert.proofs.DecodedFrames.{decoded-all, stream_ending}
 use Rattle.krb_der.specs.declared.profile.Profile.{Profile}
 use Rattle.krb_der.specs.declared.why.Why.{Why}
 use Rattle.krb_frame.specs.GoingOn.{Contents, Entry, Fault, after_contents, entries, entry_size, last_entry}
-use Rattle.krb_frame.specs.Laws.{GoingOnBegins}
 use Rattle.krb_frame.proofs.GoingOn.{begins}
 use Rattle.krb_json.specs.Lines.{line_of, message_text}
 use Rattle.krb_json.specs.Unencrypted.{unencrypted_in}
@@ -21,9 +20,8 @@ use Rattle.krb_run.specs.declared.run.RunEnd.TheVariants as run
 use Rattle.krb_tool.specs.GoingOn.{Faulty, Listed, Whole, counted_run_end, entry_of, is_refused_at_once, messages_in, refused_in}
 use Rattle.krb_tool.specs.Paths.{found_path}
 use Rattle.krb_tool_laws.specs.Listings.{AreRead}
-use Rattle.krb_tool_laws.proofs.ListedStreams.{IsGood}
-use Rattle.krb_decode.specs.Sorted.{lines_after, message_lines, sorted_end, told_lines}
-use Rattle.krb_decode.specs.Streams.{IsDecoded, end_part, part_by, part_of, parts_after}
+use Rattle.krb_decode.specs.Sorted.{is_any, lines_after, message_lines, sorted_end, told_lines}
+use Rattle.krb_decode.specs.Streams.{IsDecoded, end_part, part_by, parts_after}
 use Rattle.krb_decode_laws.specs.Messages.{is_sealed, is_sealed_by}
 use Rattle.krb_decode_laws.specs.Streams.{GoingOnChangesNothing, OthersAreTold, StreamsEndAsTold, whole_in}
 use Rattle.krb_decode_laws.proofs.CountedMessages.{nothing-there, silent-end}
@@ -195,7 +193,7 @@ module _ (p : Premises) (profile : Profile) (limit : ℕ) where
 
 pub streams_end_as_told : Premises → StreamsEndAsTold
 streams_end_as_told p profile limit stream text are decoding = record {
-  clean = λ nothing. ap₂ sorted_end (its-run-end p profile limit stream text are decoding nothing) nothing;
+  clean = λ nothing. ap₂ (λ end told. sorted_end end (is_any told)) (its-run-end p profile limit stream text are decoding nothing) nothing;
   silent = silent-end (counted_run_end (is_refused_at_once decoding.found) (refused_in decoding.found)) (told_lines text);
   counted = λ nothing. its-count p profile limit stream text are decoding nothing;
 }

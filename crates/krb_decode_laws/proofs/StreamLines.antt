@@ -1,53 +1,40 @@
 -- The lines of what is decoded of a stream that goes on.
-use Rattle.std.proofs.Common.{◌≡◌, ℕ, zero, suc, ◌+◌, ◌^◌, ◌<◌, Bool, true, false, cond, List, [], ◌∷◌, ◌++◌, length, map, Option, Some, None, codes, refl, sym, ◌∙◌, ap, ap₂, subst, arith, append_assoc, append-nil}
-use Rattle.std.specs.Prelude.{decimal}
+use Rattle.std.proofs.Common.{◌≡◌, ℕ, zero, suc, ◌+◌, Bool, true, false, cond, List, [], ◌∷◌, ◌++◌, length, map, Option, Some, None, codes, refl, sym, ◌∙◌, ap, subst, arith, append_assoc, append-nil}
 use Rattle.std.specs.List.{AllByRecursion, Contains, filter, flat_map}
-use Rattle.std.proofs.lemmas.List.{length-map}
 use Rattle.std.proofs.lemmas.List.Folds.{flat_map-map}
-use Rattle.krb_convert.specs.Decoding.{All, AllAreEncrypted, decoded}
-use Rattle.krb_convert.specs.inner.JsonLines.{octets_line}
-use Rattle.krb_convert.proofs.DecodedFrames.{decoded-all, stream_ending}
 use Rattle.krb_der.specs.declared.profile.Profile.{Profile}
 use Rattle.krb_der.specs.declared.why.Why.{Why}
-use Rattle.krb_frame.specs.GoingOn.{Contents, Entry, Fault, after_contents, entries, entry_size, last_entry}
-use Rattle.krb_frame.specs.Laws.{GoingOnBegins, RefusalsAreInside}
-use Rattle.krb_frame.proofs.GoingOn.{begins}
+use Rattle.krb_frame.specs.GoingOn.{entries, entry_size}
+use Rattle.krb_frame.specs.Laws.{RefusalsAreInside}
 use Rattle.krb_json.specs.Laws.{TextsAreJson}
 use Rattle.krb_json.specs.Lines.{line_of, message_text}
 use Rattle.krb_json.specs.Unencrypted.{unencrypted_in}
-use Rattle.krb_msg.specs.Grammar.{messages}
 use Rattle.krb_msg.specs.Judgement.{verdict_of}
 use Rattle.krb_msg.specs.Laws.{AreMessage, DerIsPrefixFree}
-use Rattle.krb_msg.specs.Stream.{Boundary, End, Frames, Refused, Within, frames}
-use Rattle.krb_msg.specs.Views.{IsInProfile, message_der, message_of_der}
+use Rattle.krb_msg.specs.Stream.{Refused}
+use Rattle.krb_msg.specs.Views.{IsInProfile, message_der}
 use Rattle.krb_msg.specs.declared.message.Message.{Message}
 use Rattle.krb_msg.proofs.Judged.{whole_is_message}
-use Rattle.krb_msg.proofs.MessageOfDer.{message_of_der_is_message}
-use Rattle.krb_record.specs.Forms.{opening, record_line, record_text}
+use Rattle.krb_record.specs.Forms.{opening, record_text}
 use Rattle.krb_record.specs.Laws.{CountedStreamEndIsOneLine, IsOneLine}
-use Rattle.krb_record.specs.Streams.{counted_end_record, refused_record}
 use Rattle.krb_record.specs.Text.{line_feed}
 use Rattle.krb_record.specs.declared.extent.Extent.{Extent}
 use Rattle.krb_record.specs.declared.form.Base.TheVariants as bases
-use Rattle.krb_record.specs.declared.form.Form.TheVariants.{NamedLines}
 use Rattle.krb_record.proofs.Printable.{Prints, join, word}
-use Rattle.krb_run.specs.declared.run.RunEnd.{RunEnd}
-use Rattle.krb_run.specs.declared.run.RunEnd.TheVariants as run
 use Rattle.krb_text.specs.Laws.{StreamEndIsOneLine}
 use Rattle.krb_text_laws.proofs.Printable.{number}
-use Rattle.krb_tool.specs.GoingOn.{Faulty, Listed, Whole, counted_end_line, counted_run_end, entry_of, is_refused_at_once, messages_in, refused_end, refused_in, refused_line}
+use Rattle.krb_tool.specs.GoingOn.{Faulty, Listed, Whole, counted_end_line, entry_of, messages_in, refused_in, refused_line}
 use Rattle.krb_tool.specs.Paths.{frame_extent, frame_path}
 use Rattle.krb_tool_laws.specs.Listings.{AreRead}
 use Rattle.krb_tool_laws.proofs.ListedStreams.{IsGood, IsGoodEntry, good_entries}
 use Rattle.krb_tool_laws.proofs.PathOctets.{frame_octets}
 use Rattle.krb_decode.specs.Decoded.{not_encrypted}
-use Rattle.krb_decode.specs.Sorted.{is_of_message, lines_after, message_lines, sorted_end, told_lines}
+use Rattle.krb_decode.specs.Sorted.{is_of_message, message_lines, told_lines}
 use Rattle.krb_decode.specs.Streams.{IsDecoded, end_part, message_opening, named, part_by, part_of, parts_after}
 use Rattle.krb_decode_laws.specs.Messages.{is_sealed, is_sealed_by}
-use Rattle.krb_decode_laws.specs.Streams.{DecodedIsPrinted, DecodedIsTheListing, GoingOnChangesNothing, OthersAreTold, StreamsEndAsTold, whole_in}
-
+use Rattle.krb_decode_laws.specs.Streams.{DecodedIsTheListing, OthersAreTold, whole_in}
 use Rattle.krb_decode_laws.proofs.FoundLines.{braced, unencrypted-path}
-use Rattle.krb_decode_laws.proofs.SortedTexts.{Sorted, a-message, a-told, both, it-is-told, none, sorted-count, sorted-messages, sorted-printed, told-left, told-right, with_feed}
+use Rattle.krb_decode_laws.proofs.SortedTexts.{Sorted, a-message, a-told, both, it-is-told, none, sorted-messages, told-left, told-right, with_feed}
 
 pub record Premises : Type 0 where
   pub prefix_free : DerIsPrefixFree
@@ -138,8 +125,8 @@ module _ (p : Premises) (profile : Profile) (limit : ℕ) where
       let first : Sorted (refused_line named before place reason (frame_path profile prefix) (frame_extent offset prefix)) [] = refused-sorted before offset place reason prefix in
       let rest : Sorted (parts_after profile before after others) (texts others) = parts-sorted before after others good.1 in (
         told-left first rest (refused_line named before place reason (frame_path profile prefix) (frame_extent offset prefix))
-        (it-is-told (refused_line named before place reason (frame_path profile prefix) (frame_extent offset prefix)) (p.end_line_is bases.NamedLines before (Refused place reason) (frame_path profile prefix) (frame_extent offset prefix) (frame_octets profile prefix))
-        (refused-first before place reason (frame_path profile prefix) (frame_extent offset prefix))),
+            (it-is-told (refused_line named before place reason (frame_path profile prefix) (frame_extent offset prefix)) (p.end_line_is bases.NamedLines before (Refused place reason) (frame_path profile prefix) (frame_extent offset prefix) (frame_octets profile prefix))
+            (refused-first before place reason (frame_path profile prefix) (frame_extent offset prefix))),
         told-after first rest before after others (each-told before after others good.1),
       )
 
@@ -166,6 +153,3 @@ module _ (p : Premises) (profile : Profile) (limit : ℕ) where
 
 pub decoded_is_the_listing : Premises → DecodedIsTheListing
 decoded_is_the_listing p profile limit stream text are decoding = record { messages = its-messages p profile limit stream text are decoding; others = its-others p profile limit stream text are decoding }
-
-pub decoded_is_printed : Premises → DecodedIsPrinted
-decoded_is_printed p profile limit stream text are decoding = sorted-printed text (map message_text (filter is_sealed (whole_in decoding.found))) (its-lines p profile limit stream text are decoding)

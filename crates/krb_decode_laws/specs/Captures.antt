@@ -1,15 +1,16 @@
 -- The laws of what is decoded of a capture. Each is the contract of a function of the module `captures`.
-use Rattle.std.specs.Prelude.{ℕ, ◌≡◌, ◌-◌, ◌^◌, min, List, [], ◌∷◌, length, Option, Some, None}
+use Rattle.std.specs.Prelude.{ℕ, ◌≡◌, ◌≤◌, ◌-◌, ◌^◌, true, min, List, [], ◌∷◌, length, Option, Some, None}
 use Rattle.std.specs.List.{AllByRecursion, Contains, filter, flat_map, range_with_len}
-use Rattle.krb_der.specs.declared.profile.Profile.{Profile}
-use Rattle.krb_msg.specs.Views.{message_of_der}
+use Rattle.krb_convert.specs.Encoding.{All, encoded}
+use Rattle.krb_convert.specs.Laws.{AreLines}
+use Rattle.krb_der.specs.declared.profile.Profile.TheVariants.{Lenient}
+use Rattle.krb_msg.specs.Views.{message_der, message_of_der}
 use Rattle.krb_msg.specs.declared.message.Message.{Message}
 use Rattle.krb_json.specs.Lines.{line_of}
 use Rattle.krb_json.specs.Unencrypted.{unencrypted_in}
 use Rattle.krb_packet.specs.Captures.{packets}
 use Rattle.krb_record.specs.Labels.{no_label}
 use Rattle.krb_record.specs.declared.capture.CaptureCounts.{CaptureCounts}
-use Rattle.krb_record.specs.declared.capture_origin.CaptureOrigin.{CaptureOrigin}
 use Rattle.krb_record.specs.declared.form.Form.TheVariants.{NamedLines}
 use Rattle.krb_capture.specs.Captures.{Finding, Settings, all_counts, at_first, end_taken}
 use Rattle.krb_capture.specs.Decoded.{not_encrypted}
@@ -21,8 +22,8 @@ use Rattle.krb_tool_laws.specs.Listings.{ArePrintedLines, AreRead}
 use Rattle.krb_capture_run.specs.Captures.{after_packets}
 use Rattle.krb_capture_run.specs.Decoded.{decoded_capture}
 use Rattle.krb_capture_run.specs.Laws.{capture_told}
-use Rattle.krb_decode_laws.specs.Messages.{is_sealed}
-use Rattle.krb_decode.specs.Sorted.{lines_after, message_lines, sorted_end, told_lines}
+use Rattle.krb_decode_laws.specs.Messages.{frames_of, is_sealed}
+use Rattle.krb_decode.specs.Sorted.{is_any, lines_after, message_lines, sorted_end, told_lines}
 
 -- ---- messages
 -- the message of a record that is one's
@@ -58,6 +59,13 @@ pub record IsTheListing (settings : Settings) (file : List ℕ) : Type 0 where
 abbrev pub DecodedIsTheListing : Type 0
 DecodedIsTheListing = (settings : Settings) (file : List ℕ) → AreRead file → IsTheListing settings file
 
+-- ---- back again
+-- The lines of a capture are encoded to a stream of its sealed messages, if none of them has more octets than a limit.
+abbrev pub CapturesComeBack : Type 0
+CapturesComeBack =
+    (settings : Settings) (file : List ℕ) (limit : ℕ) → AreRead file → AllByRecursion (λ (m : Message). length (message_der m) ≤ limit) (sealed_in (capture_told settings (packets file).items))
+    → encoded true Lenient limit (message_lines (text_of (decoded_by settings None file))) ≡ record { text = frames_of (sealed_in (capture_told settings (packets file).items)); end = All }
+
 -- ---- packets
 -- The messages of each packet, one after another, are those of the capture.
 abbrev pub PacketsAreTheCapture : Type 0
@@ -71,14 +79,18 @@ counts_of settings file = all_counts (end_taken settings (after_packets settings
 
 -- A capture ends clean if nothing is told of it, and only then; and then it has as many lines as messages were counted, which stops at 2^64 - 1.
 pub record EndsAsTold (settings : Settings) (file : List ℕ) : Type 0 where
-  pub clean : told_lines (text_of (decoded_by settings None file)) ≡ [] → sorted_end (decoded_by settings None file).end (told_lines (text_of (decoded_by settings None file))) ≡ run.Clean
-  pub silent : sorted_end (decoded_by settings None file).end (told_lines (text_of (decoded_by settings None file))) ≡ run.Clean → told_lines (text_of (decoded_by settings None file)) ≡ []
+  pub clean : told_lines (text_of (decoded_by settings None file)) ≡ [] → sorted_end (decoded_by settings None file).end (is_any (told_lines (text_of (decoded_by settings None file)))) ≡ run.Clean
+  pub silent : sorted_end (decoded_by settings None file).end (is_any (told_lines (text_of (decoded_by settings None file)))) ≡ run.Clean → told_lines (text_of (decoded_by settings None file)) ≡ []
   pub counted : told_lines (text_of (decoded_by settings None file)) ≡ [] → (counts_of settings file).messages ≡ min (length (lines_after [] (message_lines (text_of (decoded_by settings None file))))) (2 ^ 64 - 1)
 
 abbrev pub CapturesEndAsTold : Type 0
 CapturesEndAsTold = (settings : Settings) (file : List ℕ) → AreRead file → EndsAsTold settings file
 
 -- ---- lines
--- What is decoded of a capture is lines of printable ASCII, with one packet or without.
-abbrev pub DecodedIsPrinted : Type 0
-DecodedIsPrinted = (settings : Settings) (packet : Option ℕ) (file : List ℕ) → AreRead file → ArePrintedLines (text_of (decoded_by settings packet file))
+-- What is decoded of a capture, with one packet or without, is lines of printable ASCII, and what is written of it lines of JSON.
+pub record AreDecodedLines (text : List ℕ) : Type 0 where
+  pub printed : ArePrintedLines text
+  pub written : AreLines (message_lines text)
+
+abbrev pub DecodedIsLines : Type 0
+DecodedIsLines = (settings : Settings) (packet : Option ℕ) (file : List ℕ) → AreRead file → AreDecodedLines (text_of (decoded_by settings packet file))

@@ -1,21 +1,23 @@
 -- The laws of what is decoded of a stream that goes on after what is refused. Each is the contract of a function of the module `streams`.
-use Rattle.std.specs.Prelude.{ℕ, ◌+◌, ◌≡◌, List, [], ◌∷◌, length, Some}
+use Rattle.std.specs.Prelude.{ℕ, ◌+◌, ◌≡◌, true, List, [], ◌∷◌, length, Some}
 use Rattle.std.specs.List.{Contains, filter, flat_map}
 use Rattle.krb_convert.specs.Decoding.{All, decoded}
+use Rattle.krb_convert.specs.Encoding as encoding
+use Rattle.krb_convert.specs.Encoding.{encoded}
 use Rattle.krb_der.specs.declared.profile.Profile.{Profile}
 use Rattle.krb_frame.specs.GoingOn.{entry_size}
 use Rattle.krb_json.specs.Lines.{line_of}
 use Rattle.krb_json.specs.Unencrypted.{unencrypted_in}
 use Rattle.krb_msg.specs.declared.message.Message.{Message}
-use Rattle.krb_run.specs.declared.run.RunEnd.{RunEnd}
 use Rattle.krb_run.specs.declared.run.RunEnd.TheVariants as run
 use Rattle.krb_tool.specs.GoingOn.{Faulty, Listed, Whole, counted_run_end, entry_of, is_refused_at_once, messages_in, refused_in, refused_line}
 use Rattle.krb_tool.specs.Paths.{frame_extent, frame_path}
-use Rattle.krb_tool_laws.specs.Listings.{ArePrintedLines, AreRead}
+use Rattle.krb_tool_laws.specs.Listings.{AreRead}
 use Rattle.krb_decode.specs.Decoded.{not_encrypted}
-use Rattle.krb_decode.specs.Sorted.{lines_after, message_lines, sorted_end, told_lines}
+use Rattle.krb_decode.specs.Sorted.{is_any, lines_after, message_lines, sorted_end, told_lines}
 use Rattle.krb_decode.specs.Streams.{IsDecoded, message_opening, named}
-use Rattle.krb_decode_laws.specs.Messages.{is_sealed}
+use Rattle.krb_decode_laws.specs.Captures.{AreDecodedLines}
+use Rattle.krb_decode_laws.specs.Messages.{frames_of, is_sealed}
 
 -- ---- what is decoded is the listing
 -- the messages of frames, in order
@@ -40,11 +42,18 @@ pub record IsTheListing (profile : Profile) (limit : ℕ) (stream text : List �
 abbrev pub DecodedIsTheListing : Type 0
 DecodedIsTheListing = (profile : Profile) (limit : ℕ) (stream text : List ℕ) → AreRead stream → (decoding : IsDecoded profile limit stream text) → IsTheListing profile limit stream text decoding
 
+-- ---- back again
+-- Its lines are encoded to a stream of the sealed messages, by the same profile and limit.
+abbrev pub StreamsComeBack : Type 0
+StreamsComeBack =
+    (profile : Profile) (limit : ℕ) (stream text : List ℕ) → AreRead stream → (decoding : IsDecoded profile limit stream text)
+    → encoded true profile limit (message_lines text) ≡ record { text = frames_of (filter is_sealed (whole_in decoding.found)); end = encoding.All }
+
 -- ---- how it ends
 -- A run ends clean if nothing is told, and only then; and then there are as many lines as messages.
 pub record EndsAsTold (profile : Profile) (limit : ℕ) (stream text : List ℕ) (decoding : IsDecoded profile limit stream text) : Type 0 where
-  pub clean : told_lines text ≡ [] → sorted_end (counted_run_end (is_refused_at_once decoding.found) (refused_in decoding.found)) (told_lines text) ≡ run.Clean
-  pub silent : sorted_end (counted_run_end (is_refused_at_once decoding.found) (refused_in decoding.found)) (told_lines text) ≡ run.Clean → told_lines text ≡ []
+  pub clean : told_lines text ≡ [] → sorted_end (counted_run_end (is_refused_at_once decoding.found) (refused_in decoding.found)) (is_any (told_lines text)) ≡ run.Clean
+  pub silent : sorted_end (counted_run_end (is_refused_at_once decoding.found) (refused_in decoding.found)) (is_any (told_lines text)) ≡ run.Clean → told_lines text ≡ []
   pub counted : told_lines text ≡ [] → messages_in decoding.found ≡ length (lines_after [] (message_lines text))
 
 abbrev pub StreamsEndAsTold : Type 0
@@ -55,5 +64,5 @@ abbrev pub GoingOnChangesNothing : Type 0
 GoingOnChangesNothing = (profile : Profile) (limit : ℕ) (stream text : List ℕ) → AreRead stream → IsDecoded profile limit stream text → told_lines text ≡ [] → decoded profile limit stream ≡ record { text = text; end = All }
 
 -- ---- lines
-abbrev pub DecodedIsPrinted : Type 0
-DecodedIsPrinted = (profile : Profile) (limit : ℕ) (stream text : List ℕ) → AreRead stream → IsDecoded profile limit stream text → ArePrintedLines text
+abbrev pub DecodedIsLines : Type 0
+DecodedIsLines = (profile : Profile) (limit : ℕ) (stream text : List ℕ) → AreRead stream → IsDecoded profile limit stream text → AreDecodedLines text

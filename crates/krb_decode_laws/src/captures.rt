@@ -1,9 +1,9 @@
 //! Laws of what is decoded of captures. Each is the contract of a function that does nothing.
-ghost use Rattle.krb_decode_laws.specs.Captures.{CapturesEndAsTold, DecodedIsPrinted, DecodedIsTheListing, PacketsAreTheCapture};
+ghost use Rattle.krb_decode_laws.specs.Captures.{CapturesComeBack, CapturesEndAsTold, DecodedIsLines, DecodedIsTheListing, PacketsAreTheCapture};
 
 use krb_frame::law::refusals_are_inside;
 use krb_judge::law::refusals_are_inside as slices_are_refused_inside;
-use krb_message_laws::message_json::texts_are_json;
+use krb_message_laws::message_json::{texts_are_json, texts_are_short, texts_come_back};
 use krb_msg::law::message_of_der_is_message;
 use krb_text_laws::text::capture_is_one_line_each;
 
@@ -18,6 +18,20 @@ pub fn decoded_is_the_listing()
     refusals_are_inside();
     capture_is_one_line_each();
     texts_are_json();
+}
+
+/// The lines of a capture are encoded by [`run_encode`](krb_convert::run_encode) to a stream of its
+/// sealed messages, in the order of the listing, if none of them has more octets than the limit.
+pub fn captures_come_back()
+    ensures { CapturesComeBack }
+{
+    message_of_der_is_message();
+    slices_are_refused_inside();
+    refusals_are_inside();
+    capture_is_one_line_each();
+    texts_are_json();
+    texts_are_short();
+    texts_come_back();
 }
 
 /// The messages that are decoded of each packet alone, one after another, are those of the capture.
@@ -44,9 +58,9 @@ pub fn captures_end_as_told()
 }
 
 /// Whatever octets a capture has, fewer than 2^64, each line that is written or told of it is one line
-/// of printable ASCII.
-pub fn decoded_is_printed()
-    ensures { DecodedIsPrinted }
+/// of printable ASCII, and each that is written is the JSON of a message.
+pub fn decoded_is_lines()
+    ensures { DecodedIsLines }
 {
     message_of_der_is_message();
     slices_are_refused_inside();

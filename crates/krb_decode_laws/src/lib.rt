@@ -1,6 +1,8 @@
-//! Laws of what is decoded: that it is what is listed, and how it ends. Each is the contract of a
-//! function that does nothing. No crate stands on this one.
+//! Laws of what is decoded: that it is what is listed, how it ends, and that it comes back. Each is the
+//! contract of a function that does nothing. No crate stands on this one.
 #![tactic(auto)]
 
+pub mod caches;
 pub mod captures;
+pub mod inputs;
 pub mod streams;

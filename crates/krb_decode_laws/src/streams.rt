@@ -1,9 +1,9 @@
 //! Laws of what is decoded of streams that go on after what is refused. Each is the contract of a
 //! function that does nothing.
-ghost use Rattle.krb_decode_laws.specs.Streams.{DecodedIsPrinted, DecodedIsTheListing, GoingOnChangesNothing, StreamsEndAsTold};
+ghost use Rattle.krb_decode_laws.specs.Streams.{DecodedIsLines, DecodedIsTheListing, GoingOnChangesNothing, StreamsComeBack, StreamsEndAsTold};
 
 use krb_frame::law::refusals_are_inside;
-use krb_message_laws::message_json::texts_are_json;
+use krb_message_laws::message_json::{texts_are_json, texts_are_short, texts_come_back};
 use krb_msg::law::der_is_prefix_free;
 use krb_text_laws::text::end_is_one_line;
 
@@ -16,6 +16,19 @@ pub fn decoded_is_the_listing()
     refusals_are_inside();
     end_is_one_line();
     texts_are_json();
+}
+
+/// The lines of a stream that goes on are encoded by [`run_encode`](krb_convert::run_encode) to a stream
+/// of its sealed messages, by the same profile and limit.
+pub fn streams_come_back()
+    ensures { StreamsComeBack }
+{
+    der_is_prefix_free();
+    refusals_are_inside();
+    end_is_one_line();
+    texts_are_json();
+    texts_are_short();
+    texts_come_back();
 }
 
 /// The decoding of a stream that goes on ends clean if and only if nothing is told of it. Then it has as
@@ -40,9 +53,10 @@ pub fn going_on_changes_nothing()
     texts_are_json();
 }
 
-/// Each line that is written or told of a stream is one line of printable ASCII.
-pub fn decoded_is_printed()
-    ensures { DecodedIsPrinted }
+/// Each line that is written or told of a stream is one line of printable ASCII, and each that is written
+/// is the JSON of a message.
+pub fn decoded_is_lines()
+    ensures { DecodedIsLines }
 {
     der_is_prefix_free();
     refusals_are_inside();

@@ -75,10 +75,7 @@ fn sorted_end(end: RunEnd, has_told: bool) -> RunEnd
 }
 
 /// Returns how a run ends over a text that was sorted, or its fault.
-fn sorted_outcome(
-    outcome: Result<RunEnd, RunFault>,
-    has_told: bool,
-) -> Result<RunEnd, RunFault>
+fn sorted_outcome(outcome: Result<RunEnd, RunFault>, has_told: bool) -> Result<RunEnd, RunFault>
     ensures { result ≡ sorted_outcome outcome has_told }
 {
     match outcome {

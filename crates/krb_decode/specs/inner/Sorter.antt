@@ -3,7 +3,7 @@ use Rattle.std.specs.Prelude.{ℕ, ◌≡◌, ◌<◌, ◌==◌, ◌&&◌, ◌||
 use Rattle.std.specs.Coded.{Coded-set, Unit-prop, ×_prop, coded_ℕ, coded_bool, coded_list}
 use Rattle.std.specs.Io.KnownBytes.{Appends}
 use Rattle.std.proofs.Math.Logic.{∥∥₁_prop}
-use Rattle.krb_decode.specs.Sorted.{begun_after, is_any, is_of_message, is_told, message_lines, told_lines}
+use Rattle.krb_decode.specs.Sorted.{begun_after, is_any, is_of_message, message_lines, told_lines}
 
 -- ---- lines
 -- no octet is a line feed

@@ -1,4 +1,4 @@
-use Rattle.std.proofs.Common.{◌≡◌, ◌∙◌, ◌≤◌, List, ℕ, ap, arith, drop, length, length-drop, subst, sym, take}
+use Rattle.std.proofs.Common.{◌∙◌, ◌≤◌, List, ℕ, ap, arith, drop, length, length-drop, subst, take}
 use Rattle.std.specs.Prelude.{not}
 use Rattle.std.proofs.lemmas.List.{take_rest}
 use Rattle.krb_decode.specs.inner.Sorter.{IsLine}

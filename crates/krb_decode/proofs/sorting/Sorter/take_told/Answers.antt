@@ -1,4 +1,4 @@
-use Rattle.std.proofs.Common.{rules, ◌≡◌, ◌∙◌, ◌++◌, ℕ, List, true, ap, drop, subst, sym, take, take-append-drop}
+use Rattle.std.proofs.Common.{rules, ◌≡◌, ◌∙◌, ◌++◌, ℕ, List, true, drop, subst, sym, take, take-append-drop}
 use Rattle.krb_decode.specs.inner.Sorter.{IsLine, Sorts}
 use Rattle.krb_decode.proofs.Sorters.{sorts-begun, sorts-same, sorts-told}
 use Rattle.krb_decode.proofs.sorting.Sorter.take_told.Goals as goal

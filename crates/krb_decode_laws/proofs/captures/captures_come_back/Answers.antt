@@ -1,9 +1,9 @@
 use Rattle.krb_record.specs.declared.form.Base.TheVariants.{NamedLines}
-use Rattle.krb_decode_laws.proofs.ListedMessages.{decoded_is_printed}
-use Rattle.krb_decode_laws.proofs.captures.decoded_is_printed.Goals as goal
+use Rattle.krb_decode_laws.proofs.BackAgain.{captures_come_back}
+use Rattle.krb_decode_laws.proofs.captures.captures_come_back.Goals as goal
 
 pub returns : goal.returns
-returns c = decoded_is_printed (record {
+returns c = captures_come_back (record {
   rules = record { message_of = c.message_of_der_is_message.ensures; inside = c.refusals_are_inside.ensures; frames_inside = c.refusals_are_inside-2.ensures };
   lines = record {
     json = c.texts_are_json.ensures;
@@ -14,4 +14,4 @@ returns c = decoded_is_printed (record {
   };
   end_line_is = c.capture_is_one_line_each.ensures.end;
   file_line_is = c.capture_is_one_line_each.ensures.file;
-})
+}) (record { json = c.texts_are_json.ensures; short = c.texts_are_short.ensures; back = c.texts_come_back.ensures })

@@ -1,8 +1,8 @@
-use Rattle.krb_decode_laws.proofs.StreamLines.{decoded_is_printed}
-use Rattle.krb_decode_laws.proofs.streams.decoded_is_printed.Goals as goal
+use Rattle.krb_decode_laws.proofs.WrittenLines.{streams_are_lines}
+use Rattle.krb_decode_laws.proofs.streams.decoded_is_lines.Goals as goal
 
 pub returns : goal.returns
-returns c = decoded_is_printed (record {
+returns c = streams_are_lines (record {
   prefix_free = c.der_is_prefix_free.ensures;
   inside = c.refusals_are_inside.ensures;
   end_line_is = c.end_is_one_line.ensures.stream;
