@@ -57,6 +57,7 @@ static inline uint32_t do_spans(const struct call *c, uint8_t *text, size_t room
     static uint64_t spans[1 << 16];
     size_t numbers = 0, count = room / 8 < 1 << 16 ? room / 8 : 1 << 16;
     uint32_t status = krbls_spans(c->profile, c->limit, c->going_on, (uint16_t)c->port, c->octets, c->size, spans, count, &numbers);
+    if (status == KRBLS_OUT_OF_MEMORY) return status;
     memcpy(text, spans, 8 * (numbers < count ? numbers : count));
     *size = 8 * numbers;
     return status;

@@ -1,0 +1,10 @@
+pub mod FirstHeads
+pub mod ReadHeads
+pub mod Filling
+pub mod Types
+pub mod Covering
+pub mod Holding
+pub mod Accepted
+pub mod OctetItems
+pub mod PrintedItems
+pub mod PrintedListings
