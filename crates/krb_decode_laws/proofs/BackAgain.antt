@@ -33,7 +33,7 @@ use Rattle.krb_decode_laws.proofs.DecodedCaptures.{Premises as CapturePremises, 
 use Rattle.krb_decode_laws.proofs.ListedMessages.{decoded_is_the_listing as captures_listed, found-is}
 use Rattle.krb_decode_laws.proofs.StreamLines.{AreGood, Premises as StreamPremises, decoded_is_the_listing as streams_listed, good, in-profile}
 
-no-feed : (text : List ℕ) → IsPrintable text → All (λ octet. (octet == 10) ≡ false) text
+pub no-feed : (text : List ℕ) → IsPrintable text → All (λ octet. (octet == 10) ≡ false) text
 no-feed [] p = All-nil (λ octet. (octet == 10) ≡ false)
 no-feed (octet ∷ text) p = All-cons (λ o. (o == 10) ≡ false) octet text (ne_eqb octet 10 (omega (arith, p.0.0))) (no-feed text p.1)
 

@@ -1,5 +1,5 @@
 -- The tickets that are decoded of a credential cache.
-use Rattle.std.proofs.Common.{◌≡◌, ℕ, ◌+◌, Bool, true, false, not, cond, if◌then◌else◌, List, [], ◌∷◌, ◌++◌, length, map, Option, None, Some, Result, Ok, Err, codes, refl, sym, ◌∙◌, ap, ap₂, append-nil, append_assoc}
+use Rattle.std.proofs.Common.{◌≡◌, ℕ, ◌+◌, inl, inr, Bool, true, false, not, cond, if◌then◌else◌, List, [], ◌∷◌, ◌++◌, length, map, Option, None, Some, Result, Ok, Err, codes, refl, sym, ◌∙◌, ap, ap₂, append-nil, append_assoc, arith}
 use Rattle.std.specs.List.{filter, flat_map}
 use Rattle.std.proofs.lemmas.List.{length-map}
 use Rattle.krb_ccache.specs.Reading.{CacheItems}
@@ -20,8 +20,9 @@ use Rattle.krb_run.specs.Paths.{field_path}
 use Rattle.krb_run.specs.declared.run.RunEnd.TheVariants as run
 use Rattle.krb_tool.specs.Messages.{ticket_of_der}
 use Rattle.krb_decode.specs.Caches.{cache_decoded, credential_opening, credentials_decoded, decoded_cache, decoded_credential, decoded_credentials, decoded_field, field_limit, judged_field, said_last}
-use Rattle.krb_decode.specs.Decoded.{Added, accepted, both, end_of, is_sealed, not_encrypted, nothing, printed, refused, said}
-use Rattle.krb_decode_laws.specs.Caches.{CachesAreDecoded, TicketsAloneAreDecoded, field_line, fields_of, is_sealed_by, is_sealed_ticket, start_fault, ticket_in}
+use Rattle.krb_decode.specs.Decoded.{Added, accepted, both, decoded_ticket, end_of, is_sealed, not_encrypted, nothing, printed, refused, said}
+use Rattle.krb_decode_laws.proofs.AlikeInputs.{tickets-alike}
+use Rattle.krb_decode_laws.specs.Caches.{AreFieldsAlike, CachesAreDecoded, IsFieldAlike, TicketsAloneAreDecoded, field_line, fields_of, is_sealed_by, is_sealed_ticket, start_fault, ticket_in}
 
 -- ---- a ticket field
 sealed-lines : (origin octets : List ℕ) (sealed : Bool) → is_sealed (ticket_of_der octets).enc_part.etype ≡ sealed → (judged_field origin octets None).lines ≡ flat_map field_line (cond sealed (octets ∷ []) [])
@@ -69,7 +70,7 @@ credentials-lines index (c ∷ others) = ap (λ l. (decoded_credential index c).
     by true = refl
     by false = ap (λ l. l ++ flat_map field_line (filter is_sealed_ticket (fields_of others))) (field-lines (credential_opening index) c.ticket) ∙ one-more (is_sealed_ticket c.ticket) c.ticket (filter is_sealed_ticket (fields_of others))
 
-both-empty : (a b : List ℕ) → a ++ b ≡ [] → (a ≡ []) × (b ≡ [])
+pub both-empty : (a b : List ℕ) → a ++ b ≡ [] → (a ≡ []) × (b ≡ [])
 both-empty [] b e = (refl, e)
 both-empty (x ∷ a) b e = absurd cc
 
@@ -133,23 +134,41 @@ credential-if index c = by (is_config c)
     by true = refl
     by false = refl
 
-same-first : (a b : Option (List ℕ)) (c d : List (Option (List ℕ))) → a ∷ c ≡ b ∷ d → (a ≡ b) × (c ≡ d)
-same-first a b c d e = (cc, cc)
+-- a field that is a Ticket
+field-form : (origin octets : List ℕ) → ticket_refusal Lenient octets ≡ None → decoded_field origin octets ≡ decoded_ticket origin (codes "Ticket.enc-part") (ticket_of_der octets)
+field-form origin [] none = absurd cc
+field-form origin (octet ∷ octets) none = ap (judged_field origin (octet ∷ octets)) none
 
-same-credentials : (index : ℕ) (one other : List Credential) → map ticket_in one ≡ map ticket_in other → decoded_credentials index one ≡ decoded_credentials index other
+field-alike : (index : ℕ) (one other : Option (List ℕ)) → IsFieldAlike one other → decoded_if index one ≡ decoded_if index other
+unfolding decoded_if
+field-alike index None None a = refl
+field-alike index (Some one) (Some other) (inl e) = ap (decoded_field (credential_opening index)) e
+field-alike index (Some one) (Some other) (inr a) =
+    field-form (credential_opening index) one a.first
+    ∙ tickets-alike (credential_opening index) (codes "Ticket.enc-part") (ticket_of_der one) (ticket_of_der other) a.alike
+    ∙ sym (field-form (credential_opening index) other a.second)
+field-alike index None (Some other) a = absurd a
+field-alike index (Some one) None a = absurd a
+
+same-credentials : (index : ℕ) (one other : List Credential) → AreFieldsAlike (map ticket_in one) (map ticket_in other) → decoded_credentials index one ≡ decoded_credentials index other
 same-credentials index [] [] e = refl
-same-credentials index [] (d ∷ other) e = absurd cc
-same-credentials index (c ∷ one) [] e = absurd cc
+same-credentials index [] (d ∷ other) e = absurd e
+same-credentials index (c ∷ one) [] e = absurd e
 same-credentials index (c ∷ one) (d ∷ other) e =
-    let same = same-first (ticket_in c) (ticket_in d) (map ticket_in one) (map ticket_in other) e in
-    ap₂ both (credential-if index c ∙ ap (decoded_if index) same.0 ∙ sym (credential-if index d)) (same-credentials (index + 1) one other same.1)
+    ap₂ both (credential-if index c ∙ field-alike index (ticket_in c) (ticket_in d) e.0 ∙ sym (credential-if index d)) (same-credentials (index + 1) one other e.1)
 
-same-found : (one other : CacheItems Credential) → map ticket_in one.items ≡ map ticket_in other.items → one.end ≡ other.end → credentials_decoded one ≡ credentials_decoded other
+as-many : (one other : List (Option (List ℕ))) → AreFieldsAlike one other → length one ≡ length other
+as-many [] [] e = refl
+as-many [] (b ∷ other) e = absurd e
+as-many (a ∷ one) [] e = absurd e
+as-many (a ∷ one) (b ∷ other) e = omega (arith, as-many one other e.1)
+
+same-found : (one other : CacheItems Credential) → AreFieldsAlike (map ticket_in one.items) (map ticket_in other.items) → one.end ≡ other.end → credentials_decoded one ≡ credentials_decoded other
 same-found one other e end =
-    let many : length one.items ≡ length other.items = sym (length-map one.items ticket_in) ∙ ap length e ∙ length-map other.items ticket_in in
+    let many : length one.items ≡ length other.items = sym (length-map one.items ticket_in) ∙ as-many (map ticket_in one.items) (map ticket_in other.items) e ∙ length-map other.items ticket_in in
     ap₂ (λ added last. accepted (both added (said last))) (same-credentials 0 one.items other.items e) (ap₂ said_last many end)
 
-same-start : (r s : Result (Start × Source) Fault) (one other : CacheItems Credential) → start_fault r ≡ start_fault s → map ticket_in one.items ≡ map ticket_in other.items → one.end ≡ other.end → cache_decoded r one ≡ cache_decoded s other
+same-start : (r s : Result (Start × Source) Fault) (one other : CacheItems Credential) → start_fault r ≡ start_fault s → AreFieldsAlike (map ticket_in one.items) (map ticket_in other.items) → one.end ≡ other.end → cache_decoded r one ≡ cache_decoded s other
 same-start (Ok r) (Ok s) one other f e end = same-found one other e end
 same-start (Ok r) (Err fault) one other f e end = absurd cc
 same-start (Err fault) (Ok s) one other f e end = absurd cc

@@ -52,10 +52,10 @@ first-path : (one other : Option (List ℕ)) → OfPath one → OfPath other →
 first-path None other a b = b
 first-path (Some path) other a b = a
 
-field-path : (path : List ℕ) (names : Names) (index : ℕ) → Prints path → Prints (field_path path (field_at names index).name)
+pub field-path : (path : List ℕ) (names : Names) (index : ℕ) → Prints path → Prints (field_path path (field_at names index).name)
 field-path path names index p = join (join p (word (codes ".") refl)) (record { all = printable-name names index })
 
-element-path : (path : List ℕ) (index : ℕ) → Prints path → Prints (element_path path index)
+pub element-path : (path : List ℕ) (index : ℕ) → Prints path → Prints (element_path path index)
 element-path path index p = join (join (join p (word (codes "[") refl)) (number index)) (word (codes "]") refl)
 
 items-path : {A : Type 0} (in_item : (path : List ℕ) → A → Option (List ℕ)) → ((path : List ℕ) (value : A) → Prints path → OfPath (in_item path value)) → (path : List ℕ) (index : ℕ) (values : List A) → Prints path → OfPath (unencrypted_items in_item path index values)
@@ -110,7 +110,7 @@ front [] rest h = word [] refl
 front (c ∷ text) rest h = record { all = (h.0, (front text rest h.1).all) }
 
 -- what a line has before the rest of it
-parted : (o a b c d e : List ℕ) → ((((o ++ a) ++ b) ++ c) ++ d) ++ e ≡ o ++ (a ++ (b ++ (c ++ (d ++ e))))
+pub parted : (o a b c d e : List ℕ) → ((((o ++ a) ++ b) ++ c) ++ d) ++ e ≡ o ++ (a ++ (b ++ (c ++ (d ++ e))))
 parted o a b c d e = simp append_assoc refl
 
 origin_prints : (origin : CaptureOrigin) → IsOneLine (joined_line NamedLines origin) → Prints (heading NamedLines (origin_fields NamedLines origin) [])

@@ -1,4 +1,7 @@
+pub mod AlikeInputs
+pub mod AlikeStreams
 pub mod BackAgain
+pub mod CacheLines
 pub mod CacheTickets
 pub mod CountedMessages
 pub mod CountedPackets
@@ -6,9 +9,14 @@ pub mod DecodedCaptures
 pub mod Findings
 pub mod FoundLines
 pub mod InputEnds
+pub mod InputLines
+pub mod InputsBack
 pub mod ListedMessages
+pub mod MaskedSizes
 pub mod OnePacket
 pub mod SortedTexts
 pub mod StreamEnds
 pub mod StreamLines
+pub mod TicketLengths
+pub mod TicketTexts
 pub mod WrittenLines

@@ -1,13 +1,16 @@
 -- The laws of what is decoded of a stream that goes on after what is refused. Each is the contract of a function of the module `streams`.
-use Rattle.std.specs.Prelude.{ℕ, ◌+◌, ◌≡◌, true, List, [], ◌∷◌, length, Some}
-use Rattle.std.specs.List.{Contains, filter, flat_map}
+use Rattle.std.specs.Prelude.{ℕ, ◌+◌, ◌≡◌, true, List, [], ◌∷◌, ◌++◌, length, Some}
+use Rattle.std.specs.List.{AllByRecursion, Contains, filter, flat_map}
 use Rattle.krb_convert.specs.Decoding.{All, decoded}
 use Rattle.krb_convert.specs.Encoding as encoding
 use Rattle.krb_convert.specs.Encoding.{encoded}
+use Rattle.krb_convert.specs.Laws.{AreAlike}
 use Rattle.krb_der.specs.declared.profile.Profile.{Profile}
+use Rattle.krb_frame.specs.Frame.{framed}
 use Rattle.krb_frame.specs.GoingOn.{entry_size}
 use Rattle.krb_json.specs.Lines.{line_of}
 use Rattle.krb_json.specs.Unencrypted.{unencrypted_in}
+use Rattle.krb_msg.specs.Views.{message_der}
 use Rattle.krb_msg.specs.declared.message.Message.{Message}
 use Rattle.krb_run.specs.declared.run.RunEnd.TheVariants as run
 use Rattle.krb_tool.specs.GoingOn.{Faulty, Listed, Whole, counted_run_end, entry_of, is_refused_at_once, messages_in, refused_in, refused_line}
@@ -66,3 +69,10 @@ GoingOnChangesNothing = (profile : Profile) (limit : ℕ) (stream text : List �
 -- ---- lines
 abbrev pub DecodedIsLines : Type 0
 DecodedIsLines = (profile : Profile) (limit : ℕ) (stream text : List ℕ) → AreRead stream → IsDecoded profile limit stream text → AreDecodedLines text
+
+-- ---- what is not encrypted is not decoded
+-- Streams whose first frames are messages that differ in nothing else, and that go on alike, are decoded alike.
+abbrev pub StreamsAreDecodedAlike : Type 0
+StreamsAreDecodedAlike =
+    (profile : Profile) (limit : ℕ) (pairs : List (Message × Message)) (rest text other : List ℕ) → AllByRecursion (AreAlike profile limit) pairs
+    → IsDecoded profile limit (flat_map (λ p. framed (message_der p.0)) pairs ++ rest) text → IsDecoded profile limit (flat_map (λ p. framed (message_der p.1)) pairs ++ rest) other → text ≡ other

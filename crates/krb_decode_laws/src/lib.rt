@@ -6,3 +6,5 @@ pub mod caches;
 pub mod captures;
 pub mod inputs;
 pub mod streams;
+pub mod tickets;
+pub mod unencrypted;
