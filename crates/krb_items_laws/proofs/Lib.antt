@@ -8,3 +8,8 @@ pub mod Accepted
 pub mod OctetItems
 pub mod PrintedItems
 pub mod PrintedListings
+pub mod MaskedHeads
+pub mod MaskedSlices
+pub mod MaskedNames
+pub mod Masking
+pub mod MaskedItems
