@@ -1,10 +1,8 @@
 -- The heads of two lists of octets that are the same where the heads are.
-use Rattle.std.proofs.Common.{◌≡◌, ℕ, zero, suc, ◌+◌, ◌-◌, ◌<◌, ◌≤◌, min, Bool, true, false, ◌&&◌, ◌||◌, ◌==◌, nat_lt, if◌then◌else◌, List, [], ◌∷◌, ◌++◌, length, take, drop, get_or, Option, Some, None, refl, sym, ◌∙◌, ap, subst, arith, cond, ltb-true, true≢false}
-use Rattle.std.proofs.lemmas.List.{get_or-drop, get_or-take, length-take, length-drop}
+use Rattle.std.proofs.Common.{◌≡◌, ℕ, zero, suc, ◌+◌, ◌-◌, ◌<◌, ◌≤◌, Bool, true, false, ◌&&◌, ◌||◌, ◌==◌, nat_lt, if◌then◌else◌, List, [], ◌∷◌, length, take, drop, get_or, Option, Some, None, refl, sym, ◌∙◌, ap, subst, arith, cond}
 use Rattle.krb_der.specs.Octets.{begins_with, number, when}
-use Rattle.krb_items.specs.Heads.{Begun, Headed, contents_by, contents_in, count_by, count_in, head_in, headed, headed_by, long_head, octet_of, stopped, with_head, with_unknown}
+use Rattle.krb_items.specs.Heads.{Begun, Headed, head_in, headed, headed_by, long_head, octet_of, stopped, with_head, with_unknown}
 use Rattle.krb_items.specs.declared.tag.Tag.{Tag}
-use Rattle.krb_items_laws.specs.Masked.{AreSame}
 
 -- a head
 abbrev TypeIn : (A : Type 0) → Option A → Type 0

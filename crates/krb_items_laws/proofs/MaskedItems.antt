@@ -1,22 +1,25 @@
 -- What is listed of messages and Tickets is what is listed of others that differ in ciphers and checksums alone.
-use Rattle.std.proofs.Common.{◌≡◌, ℕ, ◌+◌, ◌-◌, ◌^◌, ◌<◌, min, Bool, true, false, List, [], ◌∷◌, ◌++◌, length, take, drop, map, get_or, codes, Option, Some, None, refl, sym, ◌∙◌, ap, subst, arith}
+use Rattle.std.proofs.Common.{◌≡◌, ℕ, ◌+◌, ◌-◌, ◌^◌, ◌≤◌, min, Bool, true, false, List, [], ◌∷◌, ◌++◌, length, take, drop, map, get_or, codes, Option, Some, None, refl, sym, ◌∙◌, ap, subst, arith, le-ltb}
+use Rattle.krb_der.specs.Octets.{number}
 use Rattle.krb_msg.specs.Views.{kind_name, kind_with_tag}
 use Rattle.krb_msg.specs.declared.message.Kind.{Kind}
 use Rattle.krb_msg.specs.declared.message.Kind.TheVariants as kinds
 use Rattle.krb_record.specs.Forms.{field}
 use Rattle.krb_record.specs.Labels.{Label}
 use Rattle.krb_record.specs.Values.{String, Value}
-use Rattle.krb_items.specs.Heads.{Begun}
-use Rattle.krb_items.specs.Items.{Here, Item, Items, Limits, all_items, here_at, kind_items, message_items, most_levels, ticket_items, unknown}
+use Rattle.krb_items.specs.Heads.{Begun, begun_at, with_head}
+use Rattle.krb_items.specs.Items.{Here, Item, Items, Limits, after_item, all_items, container, frame_items, here_at, kind_items, message_items, most_levels, ticket_items, unknown}
 use Rattle.krb_items.specs.Reached.{context_by, limits_by, listing_of, reached}
-use Rattle.krb_items.specs.Records.{Context, ending, hide_if, item_line, listed_item, listed_items, listed_part, origin_text, tag_word, words_field}
+use Rattle.krb_items.specs.Records.{ending, hide_if, item_line, listed_item, listed_items, listed_part, origin_text, tag_word, words_field}
 use Rattle.krb_items.specs.Shapes.{message_of, ticket}
 use Rattle.krb_items.specs.declared.listing.Listed.{Listed}
 use Rattle.krb_items.specs.declared.reaching.Lies.{Lies}
 use Rattle.krb_items.specs.declared.reaching.Lies.TheVariants as lies
-use Rattle.krb_items_laws.specs.Covers.{MessagesAreCovered, TicketsAreCovered, whole_items}
-use Rattle.krb_items_laws.specs.Masked.{DifferWhereMasked, MaskedMessagesAreSame, MaskedTicketsAreSame}
-use Rattle.krb_items_laws.proofs.MaskedSlices.{Slice}
+use Rattle.krb_items.specs.declared.tag.Tag.TheVariants as tags
+use Rattle.krb_source.specs.declared.layer.Layer.TheVariants.{Frame}
+use Rattle.krb_items_laws.specs.Covers.{FramesAreCovered, MessagesAreCovered, TicketsAreCovered, whole_items}
+use Rattle.krb_items_laws.specs.Masked.{MaskedFramesAreSame, MaskedMessagesAreSame, MaskedTicketsAreSame}
+use Rattle.krb_items_laws.proofs.MaskedSlices.{Slice, slice-drop}
 use Rattle.krb_items_laws.proofs.Masking.{AreKept, OneTold, ToldSame, is_clear, is_walked, items-told, told}
 
 -- ---- records
@@ -112,3 +115,47 @@ masked-tickets covered label text profile octets others a e d =
     (items-told octets others (limits_by octets None) most_levels (here_at [] (codes "Ticket") 0 0) ticket octets others refl refl (all-slice octets others d.as_many) d.kept whole).told_same in
     reached-same label text lies.Ticket octets others whole
     (subst (λ (n : ℕ). ToldSame octets others (whole_items lies.Ticket octets) (ticket_items (record { limit = n; fault = None }) others)) d.as_many t)
+
+-- ---- frames
+abbrev frame-begun : (a b c d : ℕ) → Begun
+frame-begun a b c d = with_head (begun_at (Frame ∷ []) 0 0) tags.Frame (a ∷ b ∷ c ∷ d ∷ []) (Some (number (a ∷ b ∷ c ∷ d ∷ [])))
+
+abbrev framed : Limits → (a b c d : ℕ) → List ℕ → Items
+framed limits a b c d message = after_item (container (codes "frame") (frame-begun a b c d)) (message_items (all_items limits) (here_at (Frame ∷ []) [] 4 1) message)
+
+frame-is : (size a b c d : ℕ) (message : List ℕ) → 4 ≤ size → frame_items (record { limit = size; fault = None }) (a ∷ b ∷ c ∷ d ∷ message) ≡ framed (record { limit = size; fault = None }) a b c d message
+frame-is size a b c d message h = rw (le-ltb size 4 h) refl
+
+module _ (a b c d : ℕ) (message : List ℕ) where
+  abbrev Frame-octets : List ℕ
+  Frame-octets = a ∷ b ∷ c ∷ d ∷ message
+
+  frame-told : (others : List ℕ) → length Frame-octets ≡ length others → (framed (limits_by Frame-octets None) a b c d message).cut ≡ None → AreKept Frame-octets others (framed (limits_by Frame-octets None) a b c d message).items
+      → ToldSame Frame-octets others (framed (limits_by Frame-octets None) a b c d message) (frame_items (limits_by Frame-octets None) others)
+  frame-told [] l cut k = absurd (omega (arith, l))
+  frame-told (p ∷ []) l cut k = absurd (omega (arith, l))
+  frame-told (p ∷ q ∷ []) l cut k = absurd (omega (arith, l))
+  frame-told (p ∷ q ∷ r ∷ []) l cut k = absurd (omega (arith, l))
+  frame-told (p ∷ q ∷ r ∷ s ∷ rest) l cut k =
+      let others : List ℕ = p ∷ q ∷ r ∷ s ∷ rest in
+      let limits : Limits = limits_by Frame-octets None in
+      let first : a ≡ p = k.0.heads 0 (omega arith) (omega arith) in
+      let second : b ≡ q = k.0.heads 1 (omega arith) (omega arith) in
+      let third : c ≡ r = k.0.heads 2 (omega arith) (omega arith) in
+      let fourth : d ≡ s = k.0.heads 3 (omega arith) (omega arith) in
+      let t : ToldSame Frame-octets others (message_items (all_items limits) (here_at (Frame ∷ []) [] 4 1) message) (message_items (all_items limits) (here_at (Frame ∷ []) [] 4 1) rest) =
+      message-told Frame-octets others limits (here_at (Frame ∷ []) [] 4 1) message rest (slice-drop Frame-octets others 0 4 Frame-octets others (all-slice Frame-octets others l)) cut k.1 in
+      let same : framed limits a b c d rest ≡ framed limits p q r s rest = (λ i. framed limits (first i) (second i) (third i) (fourth i) rest) in
+      subst (λ (i : Items). ToldSame Frame-octets others (framed limits a b c d message) i) (same ∙ sym (frame-is (length Frame-octets) p q r s rest (omega arith)))
+      (record { same = ap (λ t. told (container (codes "frame") (frame-begun a b c d)) ∷ t) t.same; ends = t.ends })
+
+pub masked-frames : FramesAreCovered → MaskedFramesAreSame
+masked-frames covered label text profile a b c d message others octets size e differ =
+    let all : List ℕ = a ∷ b ∷ c ∷ d ∷ message in
+    let whole : (whole_items lies.Framed all).cut ≡ None = (covered profile a b c d message octets size e).whole in
+    let is : whole_items lies.Framed all ≡ framed (limits_by all None) a b c d message = frame-is (length all) a b c d message (omega arith) in
+    let t : ToldSame all others (framed (limits_by all None) a b c d message) (frame_items (limits_by all None) others) =
+    frame-told a b c d message others differ.as_many (subst (λ (i : Items). i.cut ≡ None) is whole) (subst (λ (i : Items). AreKept all others i.items) is differ.kept) in
+    reached-same label text lies.Framed all others whole
+    (subst (λ (n : ℕ). ToldSame all others (whole_items lies.Framed all) (frame_items (record { limit = n; fault = None }) others)) differ.as_many
+    (subst (λ (i : Items). ToldSame all others i (frame_items (limits_by all None) others)) (sym is) t))

@@ -1,5 +1,5 @@
 -- Octets of two lists from the same place on, and the heads that they begin with.
-use Rattle.std.proofs.Common.{◌≡◌, ℕ, zero, suc, ◌+◌, ◌-◌, ◌<◌, ◌≤◌, min, Bool, true, false, nat_lt, List, [], ◌∷◌, length, take, drop, get_or, Option, Some, None, refl, sym, ◌∙◌, ap, subst, arith}
+use Rattle.std.proofs.Common.{◌≡◌, ℕ, ◌+◌, ◌<◌, ◌≤◌, min, false, nat_lt, List, [], ◌∷◌, length, take, drop, get_or, Some, refl, sym, ◌∙◌, ap, subst, arith}
 use Rattle.std.proofs.lemmas.List.{get_or-drop, get_or-take, length-take, length-drop}
 use Rattle.krb_der.specs.Octets.{begins_with}
 use Rattle.krb_items.specs.Heads.{Begun, Headed, contents_by, contents_in, count_by, count_in, head_in, headed, octet_of, size_of, with_head}

@@ -1,24 +1,23 @@
 -- The items of octets that differ in ciphers and checksums alone are told in the same way.
-use Rattle.std.proofs.Common.{◌≡◌, ℕ, ℤ, zero, suc, ◌+◌, ◌-◌, ◌<◌, ◌≤◌, ◌⊎◌, inl, inr, pos, Bool, true, false, not, ◌&&◌, ◌||◌, ◌==◌, nat_lt, nat_eq, List, [], ◌∷◌, ◌++◌, length, take, drop, map, get_or, codes, Option, Some, None, is_some, refl, sym, ◌∙◌, ap, subst, arith, cond, true≢false}
+use Rattle.std.proofs.Common.{◌≡◌, ℕ, ℤ, zero, suc, ◌+◌, ◌-◌, ◌≤◌, ◌⊎◌, inl, inr, pos, Bool, true, false, ◌&&◌, nat_lt, List, [], ◌∷◌, ◌++◌, length, take, drop, map, codes, Option, Some, None, refl, sym, ◌∙◌, ap, subst, arith, cond}
 use Rattle.std.proofs.lemmas.Bool.{and_parts}
 use Rattle.std.proofs.lemmas.List.{map-append, length-drop}
 use Rattle.std.specs.List.{AllByRecursion, list_all}
 use Rattle.krb_der.specs.Octets.{when}
 use Rattle.krb_record.specs.Values.{Value, Number}
 use Rattle.krb_items.specs.Heads.{Begun, Headed, count_in, headed, size_of}
-use Rattle.krb_items.specs.Held.{held_after, leaf_after, leaf_held, number_after, number_by, opened}
-use Rattle.krb_items.specs.Items.{Here, Item, Items, Limits, Part, after_item, begins_as, begun_here, container, contents_items, cut_in, element_items, ended, field_items, followed_by, goes_on, here_in, is_counted, item_items, leaf_items, missing, named, not_there, of_contents, of_headed, opened_items, passed, whole}
+use Rattle.krb_items.specs.Held.{leaf_after, number_after, number_by, opened}
+use Rattle.krb_items.specs.Items.{Here, Item, Items, Limits, Part, begins_as, begun_here, container, contents_items, cut_in, element_items, ended, field_items, followed_by, goes_on, here_in, is_counted, item_items, leaf_items, missing, named, not_there, of_contents, of_headed, opened_items, passed}
 use Rattle.krb_items.specs.Names.{element_path, field_path}
 use Rattle.krb_items.specs.Records.{is_hidden, item_value}
 use Rattle.krb_items.specs.Shapes.{Field, ItemType, fields_of, item_of}
 use Rattle.krb_items.specs.declared.shape.Held.{Held}
-use Rattle.krb_items.specs.declared.shape.Holder.{Holder}
 use Rattle.krb_items.specs.declared.shape.Leaf.{Leaf}
 use Rattle.krb_items.specs.declared.shape.Leaf.TheVariants as leaves
 use Rattle.krb_items.specs.declared.shape.Shape.{Shape}
 use Rattle.krb_items.specs.declared.shape.Shape.TheVariants as shapes
 use Rattle.krb_items.specs.declared.tag.Tag.{Tag}
-use Rattle.krb_items_laws.specs.Masked.{AreSame, IsKept, is_masked, is_masked_name}
+use Rattle.krb_items_laws.specs.Masked.{AreSame, IsKept, is_masked_name}
 use Rattle.krb_items_laws.proofs.MaskedNames.{is_other, other-name, other-path}
 use Rattle.krb_items_laws.proofs.MaskedSlices.{AreFirst, AreRead, Ends, FirstSame, ReadSame, Slice, begins-as-first, first-same, heads-same, read-contents, read-ends, read-size, slice-drop, slice-same}
 

@@ -1,7 +1,7 @@
 -- The law that octets of ciphers and checksums are in no record of an item.
-use Rattle.std.specs.Prelude.{ℕ, ◌≡◌, ◌+◌, ◌<◌, ◌≤◌, ◌&&◌, ◌||◌, Bool, true, false, nat_eq, List, length, get_or, codes, None, is_some}
+use Rattle.std.specs.Prelude.{ℕ, ◌≡◌, ◌+◌, ◌<◌, ◌≤◌, ◌&&◌, ◌||◌, Bool, true, false, nat_eq, List, [], ◌∷◌, length, get_or, codes, None, is_some}
 use Rattle.std.specs.List.{AllByRecursion, ends_with}
-use Rattle.krb_der.specs.Octets.{AreOctets}
+use Rattle.krb_der.specs.Octets.{AreOctets, number}
 use Rattle.krb_der.specs.declared.profile.Profile.{Profile}
 use Rattle.krb_judge.specs.Parses.{refusal_of, ticket_refusal}
 use Rattle.krb_record.specs.Labels.{Label}
@@ -43,3 +43,7 @@ MaskedMessagesAreSame = (label : Label) (text : List ℕ) (profile : Profile) (o
 abbrev pub MaskedTicketsAreSame : Type 0
 MaskedTicketsAreSame = (label : Label) (text : List ℕ) (profile : Profile) (octets others : List ℕ) → AreOctets octets → ticket_refusal profile octets ≡ None → DifferWhereMasked lies.Ticket octets others
     → reached label text lies.Ticket octets None ≡ reached label text lies.Ticket others None
+
+abbrev pub MaskedFramesAreSame : Type 0
+MaskedFramesAreSame = (label : Label) (text : List ℕ) (profile : Profile) (a b c d : ℕ) (message others : List ℕ) → AreOctets message → number (a ∷ b ∷ c ∷ d ∷ []) ≡ length message → refusal_of profile message ≡ None → DifferWhereMasked lies.Framed (a ∷ b ∷ c ∷ d ∷ message) others
+    → reached label text lies.Framed (a ∷ b ∷ c ∷ d ∷ message) None ≡ reached label text lies.Framed others None
