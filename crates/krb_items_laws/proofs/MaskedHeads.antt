@@ -99,9 +99,6 @@ step-is limit begun tag tags octets s = rw (s.begins, s.is, s.within) refl
 pub step-of : (limit : ℕ) (begun : Begun) (tag : Tag) (tags : List Tag) (octets contents : List ℕ) → (headed limit begun (tag ∷ tags) octets).contents ≡ Some contents → Step limit begun tag tags octets
 step-of limit begun tag tags octets contents e = by (begins_with (octet_of tag) octets) refl e
   where
-    Next : Type 0
-    Next = Begun → List ℕ → Headed
-
     next : Begun → List ℕ → Headed
     next begun rest = headed limit begun tags rest
 

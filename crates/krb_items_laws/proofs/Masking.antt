@@ -127,7 +127,7 @@ module _ (all more : List ℕ) where
 
   module _ (limits : Limits) (inner : ItemType → Bool) (item : Here → ItemType → List ℕ → Items) (told-items : ItemsTold inner item) where
     -- an item of a container, and what follows it
-    next-told : (here : Here) (name : List ℕ) (of : ItemType) (octets others : List ℕ) (room : ℕ) (rest : ℕ → Option ℤ → List ℕ → Items)
+    next-told : (here : Here) (name : List ℕ) (of : ItemType) (octets others : List ℕ) (rest : ℕ → Option ℤ → List ℕ → Items)
         → inner of ≡ true → is_clear of.shape name ≡ true → Slice all more here.place octets others
         → AreKept (followed_by (item (named here name) of octets) (λ _. rest (count_in octets) (number_after of octets here.number) (drop (count_in octets) octets))).items
         → (followed_by (item (named here name) of octets) (λ _. rest (count_in octets) (number_after of octets here.number) (drop (count_in octets) octets))).cut ≡ None
@@ -135,7 +135,7 @@ module _ (all more : List ℕ) where
         → ToldSame (rest (count_in octets) (number_after of octets here.number) (drop (count_in octets) octets)) (rest (count_in octets) (number_after of octets here.number) (drop (count_in octets) others)))
         → RestTold octets others (followed_by (item (named here name) of octets) (λ _. rest (count_in octets) (number_after of octets here.number) (drop (count_in octets) octets)))
         (followed_by (item (named here name) of others) (λ _. rest (count_in others) (number_after of others here.number) (drop (count_in others) others)))
-    next-told here name of octets others room rest i clear slice kept cut then =
+    next-told here name of octets others rest i clear slice kept cut then =
         let after : Items = rest (count_in octets) (number_after of octets here.number) (drop (count_in octets) octets) in
         let one : Items = item (named here name) of octets in
         let cuts : (one.cut ≡ None) × (after.cut ≡ None) = goes-cut one.items one.cut (λ _. after) cut in
@@ -186,7 +186,7 @@ module _ (all more : List ℕ) where
         let walked = and_parts (is_walked_field inner field) (list_all (is_walked_field inner) fields) w in
         let this = and_parts (is_clear field.of.shape (codes "." ++ field.name)) (inner field.of) walked.0 in
         when-told field.of.tags octets others _ _ _ _ c k
-        (λ c k. next-told here (field_path here.name field.name) field.of octets others room (λ count number octets. field_items item (passed here count number) fields (room - count) octets) this.1 (field-clear field.of.shape here.name field.name this.0) s k c
+        (λ c k. next-told here (field_path here.name field.name) field.of octets others (λ count number octets. field_items item (passed here count number) fields (room - count) octets) this.1 (field-clear field.of.shape here.name field.name this.0) s k c
         (λ k c. (fields-told (passed here (count_in octets) (number_after field.of octets here.number)) fields (room - count_in octets) (drop (count_in octets) octets) (drop (count_in octets) others) walked.1
         (slice-drop all more here.place (count_in octets) octets others s) (omega (arith, h, length-drop (count_in octets) octets)) c k).told_same))
         (λ c k. absent-told field here room octets others _ _ h s.as_many c k (λ c k. fields-told here fields room octets others walked.1 s h c k))
@@ -196,7 +196,7 @@ module _ (all more : List ℕ) where
     elements-told of zero index here room octets others p i s h c k = ended-told here room octets others h s.as_many c
     elements-told of (suc bound) index here room octets others p i s h c k =
         when-told of.tags octets others _ _ _ _ c k
-        (λ c k. next-told here (element_path here.name index) of octets others room (λ count number octets. element_items item of bound (index + 1) (passed here count here.number) (room - count) octets) i (plain-clear of.shape (element_path here.name index) p) s k c
+        (λ c k. next-told here (element_path here.name index) of octets others (λ count number octets. element_items item of bound (index + 1) (passed here count here.number) (room - count) octets) i (plain-clear of.shape (element_path here.name index) p) s k c
         (λ k c. (elements-told of bound (index + 1) (passed here (count_in octets) here.number) (room - count_in octets) (drop (count_in octets) octets) (drop (count_in octets) others) p i
         (slice-drop all more here.place (count_in octets) octets others s) (omega (arith, h, length-drop (count_in octets) octets)) c k).told_same))
         (λ c k. ended-told here room octets others h s.as_many c)
