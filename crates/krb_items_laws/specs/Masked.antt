@@ -35,7 +35,7 @@ pub record DifferWhereMasked (lies : Lies) (octets others : List ℕ) : Type 0 w
   pub as_many : length octets ≡ length others
   pub kept : AllByRecursion (IsKept octets others) (whole_items lies octets).items
 
--- What is listed of the items of a message that is accepted is what is listed of others that differ from it only so.
+-- What is listed of the items of a message that is accepted is what is listed of others that differ from it only so, if nothing is refused of these.
 abbrev pub MaskedMessagesAreSame : Type 0
 MaskedMessagesAreSame = (label : Label) (text : List ℕ) (profile : Profile) (octets others : List ℕ) → AreOctets octets → refusal_of profile octets ≡ None → DifferWhereMasked lies.Alone octets others
     → reached label text lies.Alone octets None ≡ reached label text lies.Alone others None
