@@ -8,3 +8,5 @@ pub mod Accepted
 pub mod OctetItems
 pub mod PrintedItems
 pub mod PrintedListings
+pub mod Fronts
+pub mod FrontItems

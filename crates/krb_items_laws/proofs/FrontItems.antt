@@ -1,0 +1,112 @@
+-- The items of messages and Tickets that were cut are the first of the whole ones.
+use Rattle.std.proofs.Common.{◌≡◌, ℕ, ℤ, zero, suc, ◌+◌, ◌-◌, ◌<◌, ◌≤◌, ◌⊎◌, inl, inr, Bool, true, false, ◌&&◌, nat_lt, ltb, List, [], ◌∷◌, ◌++◌, length, take, drop, codes, Option, Some, None, refl, sym, ◌∙◌, ap, subst, arith, cond, length-take, length-drop, lt-ltb, le-ltb}
+use Rattle.std.proofs.lemmas.Bool.{and_parts, cases_lt}
+use Rattle.std.proofs.lemmas.List.{drop-take, take_all}
+use Rattle.std.specs.List.{list_all}
+use Rattle.krb_der.specs.Octets.{when}
+use Rattle.krb_der.specs.declared.verdict.Refusal.{Refusal}
+use Rattle.krb_msg.specs.Views.{kind_name, kind_with_tag}
+use Rattle.krb_msg.specs.declared.message.Kind.{Kind}
+use Rattle.krb_msg.specs.declared.message.Kind.TheVariants as kinds
+use Rattle.krb_items.specs.Heads.{Begun, Headed, begun_at, contents_in, count_in, head_in, headed, size_of, with_unknown}
+use Rattle.krb_items.specs.Held.{held_name, leaf_after, number_after, number_by, opened}
+use Rattle.krb_items.specs.Items.{Here, Items, after_item, all_items, begins_as, begun_here, container, contents_items, element_items, ended, field_items, followed_by, here_at, here_in, item_items, kind_items, leaf_items, message_items, missing, most_levels, named, not_there, of_contents, of_headed, opened_items, passed, unknown}
+use Rattle.krb_items.specs.Names.{element_path, field_path}
+use Rattle.krb_items.specs.Shapes.{Field, ItemType, fields_of, held_type, item_of, message_of, ticket}
+use Rattle.krb_items.specs.declared.reaching.Lies.TheVariants as lies
+use Rattle.krb_items.specs.declared.shape.Held.{Held}
+use Rattle.krb_items.specs.declared.shape.Leaf.{Leaf}
+use Rattle.krb_items.specs.declared.shape.Leaf.TheVariants as leaves
+use Rattle.krb_items.specs.declared.shape.Shape.{Shape}
+use Rattle.krb_items.specs.declared.shape.Shape.TheVariants as shapes
+use Rattle.krb_items.specs.declared.tag.Tag.{Tag}
+use Rattle.krb_items_laws.proofs.Fronts.{Cut, Exhausted, Front, FrontOf, HeadKept, HeadsKept, Same, SameCount, count-front, cut_at, front-after, front-cut, front-then, fronts, has_tags, head-front, headed-front, whole-head}
+use Rattle.krb_items_laws.proofs.Types.{leaf-holds, leaf_nests, shape_nests}
+
+begins-none : (tags : List Tag) → begins_as tags [] ≡ false
+begins-none [] = refl
+begins-none (tag ∷ tags) = refl
+
+begins-first : (tags : List Tag) (octet : ℕ) (octets others : List ℕ) → begins_as tags (octet ∷ octets) ≡ begins_as tags (octet ∷ others)
+begins-first [] octet octets others = refl
+begins-first (tag ∷ tags) octet octets others = refl
+
+ended-front : (here : Here) (room : ℕ) (octets others : List ℕ) → Front (ended here room octets) (ended here room others)
+ended-front here zero octets others = Same refl refl
+ended-front here (suc room) octets others = front-cut (Some here.name) (with_unknown (begun_here here) octets) false _
+
+missing-or : (required : Bool) (here : Here) (name : List ℕ) (items others other : Items) → Front items others → Front (cond required (missing here name) items) (cond required other others)
+missing-or true here name items others other f = front-cut (Some (field_path here.name name)) (begun_here here) false other
+missing-or false here name items others other f = f
+
+ended-or : (required : Bool) (here : Here) (room : ℕ) (octets more : List ℕ) (items others : Items) → Front items others → Front (cond required (ended here room octets) items) (cond required (ended here room more) others)
+ended-or true here room octets more items others f = ended-front here room octets more
+ended-or false here room octets more items others f = f
+
+tags-some : (levels : ℕ) (of : ItemType) → fronts levels of ≡ true → (tag : Tag) × (wanted : List Tag) × (of.tags ≡ tag ∷ wanted)
+tags-some zero of f = absurd cc
+tags-some (suc levels) of f = by of.tags refl (and_parts (has_tags of.tags) (shape_nests (fronts levels) of.shape) f).0
+  where
+    by : (tags : List Tag) → of.tags ≡ tags → has_tags of.tags ≡ true → (tag : Tag) × (wanted : List Tag) × (of.tags ≡ tag ∷ wanted)
+    by [] t h = absurd (let g : false ≡ true = ap has_tags (sym t) ∙ h in cc)
+    by (tag ∷ wanted) t h = (tag, wanted, t)
+
+count-of : (levels limit k : ℕ) (fault : Option Refusal) (here : Here) (of : ItemType) (octets : List ℕ) → fronts levels of ≡ true → (item_items levels (cut_at limit fault) here of (take k octets)).cut ≡ None → SameCount k of.tags octets ⊎ Exhausted k octets
+count-of zero limit k fault here of octets f w = absurd cc
+count-of (suc levels) limit k fault here of octets f w = by (head-front k octets) (tags-some (suc levels) of f)
+  where
+    by : (head_in (take k octets) ≡ None) ⊎ HeadKept k octets → (tag : Tag) × (wanted : List Tag) × (of.tags ≡ tag ∷ wanted) → SameCount k of.tags octets ⊎ Exhausted k octets
+    by (inl e) t = absurd (whole-head levels limit fault here of (take k octets) f w e)
+    by (inr h) t = subst (λ (tags : List Tag). SameCount k tags octets ⊎ Exhausted k octets) (sym t.2) (count-front k t.0 t.1 octets h)
+
+module _ (limit all : ℕ) (fault other : Option Refusal) (less : limit ≤ all) (levels : ℕ) (front : FrontOf limit all fault other levels) where
+  abbrev cut : Here → ItemType → List ℕ → Items
+  cut = item_items levels (cut_at limit fault)
+
+  abbrev uncut : Here → ItemType → List ℕ → Items
+  uncut = item_items levels (cut_at all other)
+
+  leaf-front : (here : Here) (begun : Begun) (leaf : Leaf) (octets : List ℕ) → begun.next ≤ limit → length octets ≤ size_of begun.size → leaf_nests (fronts levels) leaf ≡ true
+      → Front (leaf_items cut (cut_at limit fault) here begun leaf (take (limit - begun.next) octets)) (leaf_items uncut (cut_at all other) here begun leaf octets)
+  leaf-front here begun leaf octets w z n = by (cases_lt limit (begun.next + size_of begun.size))
+    where
+      opens : (found : Option Held) → opened here.number leaf octets ≡ found → take (limit - begun.next) octets ≡ octets → Front (opened_items cut here.name begun (leaf_after here.number leaf) octets found) (opened_items uncut here.name begun (leaf_after here.number leaf) octets found)
+      opens None e t = Same refl refl
+      opens (Some held) e t =
+          front-after (record { name = here.name; begun = begun; shown = Some (leaves.Opened, octets) }) _ _
+          (subst (λ (o : List ℕ). Front (cut (here_in (field_path here.name (held_name held)) begun) (held_type held) o) (uncut (here_in (field_path here.name (held_name held)) begun) (held_type held) octets)) t
+          (front (here_in (field_path here.name (held_name held)) begun) (held_type held) octets (leaf-holds (fronts levels) here.number leaf octets held n e) w))
+
+      by : (limit < begun.next + size_of begun.size) ⊎ (begun.next + size_of begun.size ≤ limit) → Front (leaf_items cut (cut_at limit fault) here begun leaf (take (limit - begun.next) octets)) (leaf_items uncut (cut_at all other) here begun leaf octets)
+      by (inl h) = rw (lt-ltb limit (begun.next + size_of begun.size) h) (front-cut (Some here.name) begun _ _)
+      by (inr h) =
+          let e : take (limit - begun.next) octets ≡ octets = take_all (limit - begun.next) octets (omega (arith, h, z)) in
+          rw (e, le-ltb limit (begun.next + size_of begun.size) h, le-ltb all (begun.next + size_of begun.size) (omega (arith, h, less))) (opens (opened here.number leaf octets) refl e)
+
+  -- what follows an item that is whole
+  abbrev Later : (Here → ℕ → List ℕ → Items) → (Here → ℕ → List ℕ → Items) → Type 0
+  Later items others = (after : Here) (room : ℕ) (rest : List ℕ) → after.place ≤ limit → length rest ≤ room → Front (items after room (take (limit - after.place) rest)) (others after room rest)
+
+  pub later-front : (here own : Here) (of : ItemType) (number : ItemType → List ℕ → Option ℤ) (octets : List ℕ) (room : ℕ) (items others : Here → ℕ → List ℕ → Items) → fronts levels of ≡ true → here.place ≤ limit → length octets ≤ room
+      → ((o p : List ℕ) → contents_in of.tags o ≡ contents_in of.tags p → number of o ≡ number of p) → (cut own of (take (limit - here.place) octets)).cut ≡ None → Later items others → ((after : Here) (room : ℕ) (result : Items) → 0 < room → Front (items after room []) result)
+      → Front (items (passed here (count_in (take (limit - here.place) octets)) (number of (take (limit - here.place) octets))) (room - count_in (take (limit - here.place) octets)) (drop (count_in (take (limit - here.place) octets)) (take (limit - here.place) octets)))
+      (others (passed here (count_in octets) (number of octets)) (room - count_in octets) (drop (count_in octets) octets))
+  later-front here own of number octets room items others f w l same whole later ends = by (count-of levels limit (limit - here.place) fault own of octets f whole)
+    where
+      by : SameCount (limit - here.place) of.tags octets ⊎ Exhausted (limit - here.place) octets
+          → Front (items (passed here (count_in (take (limit - here.place) octets)) (number of (take (limit - here.place) octets))) (room - count_in (take (limit - here.place) octets)) (drop (count_in (take (limit - here.place) octets)) (take (limit - here.place) octets)))
+          (others (passed here (count_in octets) (number of octets)) (room - count_in octets) (drop (count_in octets) octets))
+      by (inl s) =
+          let d : drop (count_in octets) (take (limit - here.place) octets) ≡ take (limit - (here.place + count_in octets)) (drop (count_in octets) octets) =
+              ap (λ m. drop (count_in octets) (take m octets)) (omega (arith, s.within, w)) ∙ drop-take (count_in octets) (limit - (here.place + count_in octets)) octets in
+          rw (s.count, same (take (limit - here.place) octets) octets s.contents, d)
+          (later (passed here (count_in octets) (number of octets)) (room - count_in octets) (drop (count_in octets) octets) (omega (arith, s.within, w)) (omega (arith, length-drop (count_in octets) octets, l)))
+      by (inr e) =
+          let d : drop (count_in (take (limit - here.place) octets)) (take (limit - here.place) octets) ≡ [] =
+              ap (λ m. drop m (take (limit - here.place) octets)) e.count ∙ nothing-left (limit - here.place) octets in
+          rw d (ends _ _ _ (omega (arith, e.count, e.more, l)))
+        where
+          nothing-left : (k : ℕ) (octets : List ℕ) → drop k (take k octets) ≡ []
+          nothing-left zero octets = refl
+          nothing-left (suc k) [] = refl
+          nothing-left (suc k) (octet ∷ octets) = nothing-left k octets
