@@ -8,7 +8,7 @@ use Rattle.krb_der.specs.declared.verdict.Refusal.{Refusal}
 use Rattle.krb_msg.specs.Views.{kind_name, kind_with_tag}
 use Rattle.krb_msg.specs.declared.message.Kind.{Kind}
 use Rattle.krb_msg.specs.declared.message.Kind.TheVariants as kinds
-use Rattle.krb_items.specs.Heads.{Begun, Headed, begun_at, contents_in, count_in, head_in, headed, size_of, with_unknown}
+use Rattle.krb_items.specs.Heads.{Begun, Headed, begun_at, contents_in, count_in, head_in, headed, octet_of, size_of, with_unknown}
 use Rattle.krb_items.specs.Held.{held_name, leaf_after, number_after, number_by, opened}
 use Rattle.krb_items.specs.Items.{Here, Items, after_item, all_items, begins_as, begun_here, container, contents_items, element_items, ended, field_items, followed_by, here_at, here_in, item_items, kind_items, leaf_items, message_items, missing, most_levels, named, not_there, of_contents, of_headed, opened_items, passed, unknown}
 use Rattle.krb_items.specs.Names.{element_path, field_path}
@@ -20,7 +20,7 @@ use Rattle.krb_items.specs.declared.shape.Leaf.TheVariants as leaves
 use Rattle.krb_items.specs.declared.shape.Shape.{Shape}
 use Rattle.krb_items.specs.declared.shape.Shape.TheVariants as shapes
 use Rattle.krb_items.specs.declared.tag.Tag.{Tag}
-use Rattle.krb_items_laws.proofs.Fronts.{Cut, Exhausted, Front, FrontOf, HeadKept, HeadsKept, Same, SameCount, count-front, cut_at, front-after, front-cut, front-then, fronts, has_tags, head-front, headed-front, whole-head}
+use Rattle.krb_items_laws.proofs.Fronts.{Cut, Exhausted, Front, FrontOf, HeadKept, HeadsKept, Kept, Same, SameCount, begins-front, count-front, cut_at, front-after, front-cut, front-then, fronts, has_tags, head-front, headed-front, none-cut, whole-head}
 use Rattle.krb_items_laws.proofs.Types.{leaf-holds, leaf_nests, shape_nests}
 
 begins-none : (tags : List Tag) → begins_as tags [] ≡ false
@@ -30,6 +30,10 @@ begins-none (tag ∷ tags) = refl
 begins-first : (tags : List Tag) (octet : ℕ) (octets others : List ℕ) → begins_as tags (octet ∷ octets) ≡ begins_as tags (octet ∷ others)
 begins-first [] octet octets others = refl
 begins-first (tag ∷ tags) octet octets others = refl
+
+begins-as-front : (tags : List Tag) (k : ℕ) (octets : List ℕ) → begins_as tags (take k octets) ≡ true → begins_as tags octets ≡ true
+begins-as-front [] k octets e = absurd cc
+begins-as-front (tag ∷ tags) k octets e = begins-front (octet_of tag) k octets e
 
 ended-front : (here : Here) (room : ℕ) (octets others : List ℕ) → Front (ended here room octets) (ended here room others)
 ended-front here zero octets others = Same refl refl
@@ -110,3 +114,92 @@ module _ (limit all : ℕ) (fault other : Option Refusal) (less : limit ≤ all)
           nothing-left zero octets = refl
           nothing-left (suc k) [] = refl
           nothing-left (suc k) (octet ∷ octets) = nothing-left k octets
+
+  -- ---- the fields of a SEQUENCE
+  fields-end : (fields : List Field) (after : Here) (room : ℕ) (result : Items) → 0 < room → Front (field_items cut after fields room []) result
+  fields-end fields after zero result h = absurd (omega (arith, h))
+  fields-end [] after (suc room) result h = front-cut (Some after.name) (begun_here after) false result
+  fields-end (field ∷ fields) after (suc room) result h = rw (begins-none field.of.tags) (front-cut (Some after.name) (begun_here after) false result)
+
+  -- a field with which the octets that are there do not begin
+  absent-front : (field : Field) (here : Here) (room k : ℕ) (octets : List ℕ) (there next other : Unit {0} → Items) → length octets ≤ room → Front (next tt) (other tt) → begins_as field.of.tags (take k octets) ≡ false
+      → Front (not_there field here room (take k octets) next) (when (begins_as field.of.tags octets) there (λ _. not_there field here room octets other))
+  absent-front field here zero k (octet ∷ octets) there next other l f b = absurd (omega (arith, l))
+  absent-front field here zero zero [] there next other l f b = rw (begins-none field.of.tags) (missing-or field.required here field.name (next tt) (other tt) (missing here field.name) f)
+  absent-front field here zero (suc k) [] there next other l f b = rw (begins-none field.of.tags) (missing-or field.required here field.name (next tt) (other tt) (missing here field.name) f)
+  absent-front field here (suc room) zero octets there next other l f b = front-cut (Some here.name) (begun_here here) false _
+  absent-front field here (suc room) (suc k) [] there next other l f b = front-cut (Some here.name) (begun_here here) false _
+  absent-front field here (suc room) (suc k) (octet ∷ octets) there next other l f b =
+      rw (begins-first field.of.tags octet octets (take k octets) ∙ b) (ended-or field.required here (suc room) (octet ∷ take k octets) (octet ∷ octets) (next tt) (other tt) f)
+
+  fields-front : (fields : List Field) → list_all (λ field. fronts levels field.of) fields ≡ true → (here : Here) (room : ℕ) (octets : List ℕ) → here.place ≤ limit → length octets ≤ room
+      → Front (field_items cut here fields room (take (limit - here.place) octets)) (field_items uncut here fields room octets)
+  fields-front [] n here room octets w l = ended-front here room (take (limit - here.place) octets) octets
+  fields-front (field ∷ fields) n here room octets w l = by (begins_as field.of.tags (take (limit - here.place) octets)) refl
+    where
+      f = and_parts (fronts levels field.of) (list_all (λ field. fronts levels field.of) fields) n
+
+      by : (begins : Bool) → begins_as field.of.tags (take (limit - here.place) octets) ≡ begins → Front (field_items cut here (field ∷ fields) room (take (limit - here.place) octets)) (field_items uncut here (field ∷ fields) room octets)
+      by true e =
+          rw (e, begins-as-front field.of.tags (limit - here.place) octets e)
+          (front-then _ _ _ _ (front (named here (field_path here.name field.name)) field.of octets f.0 w)
+          (λ whole. later-front here (named here (field_path here.name field.name)) field.of (λ of octets. number_after of octets here.number) octets room
+          (λ here room octets. field_items cut here fields room octets) (λ here room octets. field_items uncut here fields room octets) f.0 w l
+          (λ o p same. ap (λ c. number_by field.of.shape c here.number) same) whole (fields-front fields f.1) (fields-end fields)))
+      by false e =
+          rw e
+          (absent-front field here room (limit - here.place) octets _ (λ _. field_items cut here fields room (take (limit - here.place) octets)) (λ _. field_items uncut here fields room octets) l (fields-front fields f.1 here room octets w l) e)
+
+  -- ---- the items of a SEQUENCE OF
+  elements-end : (of : ItemType) (bound index : ℕ) (after : Here) (room : ℕ) (result : Items) → 0 < room → Front (element_items cut of bound index after room []) result
+  elements-end of bound index after zero result h = absurd (omega (arith, h))
+  elements-end of zero index after (suc room) result h = front-cut (Some after.name) (begun_here after) false result
+  elements-end of (suc bound) index after (suc room) result h = rw (begins-none of.tags) (front-cut (Some after.name) (begun_here after) false result)
+
+  stop-front : (of : ItemType) (more index : ℕ) (here : Here) (room : ℕ) (octets others : List ℕ) → length others ≤ room → Front (ended here room octets) (element_items uncut of more index here room others)
+  stop-front of more index here (suc room) octets others l = front-cut (Some here.name) (with_unknown (begun_here here) octets) false _
+  stop-front of more index here zero octets (other ∷ others) l = absurd (omega (arith, l))
+  stop-front of zero index here zero octets [] l = Same refl refl
+  stop-front of (suc more) index here zero octets [] l = rw (begins-none of.tags) (Same refl refl)
+
+  elements-front : (of : ItemType) → fronts levels of ≡ true → (bound more index : ℕ) → bound ≤ more → (here : Here) (room : ℕ) (octets : List ℕ) → here.place ≤ limit → length octets ≤ room
+      → Front (element_items cut of bound index here room (take (limit - here.place) octets)) (element_items uncut of more index here room octets)
+  elements-front of f zero more index b here room octets w l = stop-front of more index here room (take (limit - here.place) octets) octets l
+  elements-front of f (suc bound) zero index b here room octets w l = absurd (omega (arith, b))
+  elements-front of f (suc bound) (suc more) index b here room octets w l = by (begins_as of.tags (take (limit - here.place) octets)) refl
+    where
+      by : (begins : Bool) → begins_as of.tags (take (limit - here.place) octets) ≡ begins → Front (element_items cut of (suc bound) index here room (take (limit - here.place) octets)) (element_items uncut of (suc more) index here room octets)
+      by true e =
+          rw (e, begins-as-front of.tags (limit - here.place) octets e)
+          (front-then _ _ _ _ (front (named here (element_path here.name index)) of octets f w)
+          (λ whole. later-front here (named here (element_path here.name index)) of (λ of octets. here.number) octets room
+          (λ here room octets. element_items cut of bound (index + 1) here room octets) (λ here room octets. element_items uncut of more (index + 1) here room octets) f w l
+          (λ o p same. refl) whole (elements-front of f bound more (index + 1) (omega (arith, b))) (elements-end of bound (index + 1))))
+      by false e = rw e (stop-front of (suc more) index here room (take (limit - here.place) octets) octets l)
+
+  -- ---- contents
+  contents-front : (here : Here) (shape : Shape) (begun : Begun) (octets : List ℕ) → begun.next ≤ limit → length octets ≤ size_of begun.size → shape_nests (fronts levels) shape ≡ true
+      → Front (contents_items cut (cut_at limit fault) here shape begun (take (limit - begun.next) octets)) (contents_items uncut (cut_at all other) here shape begun octets)
+  contents-front here (shapes.Leaf leaf) begun octets w z n = leaf-front here begun leaf octets w z n
+  contents-front here shapes.Token begun octets w z n = absurd cc
+  contents-front here shapes.Hints begun octets w z n = absurd cc
+  contents-front here (shapes.Sequence sequence) begun octets w z n =
+      front-after (container here.name begun) _ _ (fields-front (fields_of sequence) n (here_in here.name begun) (size_of begun.size) octets w z)
+  contents-front here (shapes.List list) begun octets w z n =
+      front-after (container here.name begun) _ _
+      (elements-front (item_of list) n (length (take (limit - begun.next) octets)) (length octets) 0 (omega (arith, length-take (limit - begun.next) octets)) (here_in here.name begun) (size_of begun.size) octets w z)
+
+  -- ---- an item
+  pub front-item : FrontOf limit all fault other (suc levels)
+  front-item here of octets f w = by (subst (λ (tags : List Tag). Kept limit all less tags (begun_here here) octets) (sym t.2) (headed-front limit all less (begun_here here) t.0 t.1 octets w))
+    where
+      t = tags-some (suc levels) of f
+
+      by : Kept limit all less of.tags (begun_here here) octets → Front (item_items (suc levels) (cut_at limit fault) here of (take (limit - here.place) octets)) (item_items (suc levels) (cut_at all other) here of octets)
+      by (inl e) = subst (λ (i : Items). Front i (item_items (suc levels) (cut_at all other) here of octets)) (sym (none-cut here.name _ _ _ e)) (front-cut (Some here.name) _ false _)
+      by (inr k) = rw (k.front_is, k.all_is) (contents-front here of.shape k.done k.contents k.within k.sized (and_parts (has_tags of.tags) (shape_nests (fronts levels) of.shape) f).1)
+
+-- ---- all
+pub items-front : (limit all : ℕ) (fault other : Option Refusal) → limit ≤ all → (levels : ℕ) → FrontOf limit all fault other levels
+items-front limit all fault other less zero = λ here of octets f w. absurd cc
+items-front limit all fault other less (suc levels) = front-item limit all fault other less levels (items-front limit all fault other less levels)

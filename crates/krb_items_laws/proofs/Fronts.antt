@@ -105,7 +105,7 @@ inner-front : (k header size : ℕ) (octets : List ℕ) → header ≤ k → tak
 inner-front k header size octets h =
     ap (take size) (ap (λ m. drop header (take m octets)) (omega (arith, h)) ∙ drop-take header (k - header) octets) ∙ take-both size (k - header) (drop header octets)
 
-begins-front : (tag k : ℕ) (octets : List ℕ) → begins_with tag (take k octets) ≡ true → begins_with tag octets ≡ true
+pub begins-front : (tag k : ℕ) (octets : List ℕ) → begins_with tag (take k octets) ≡ true → begins_with tag octets ≡ true
 begins-front tag zero octets e = absurd cc
 begins-front tag (suc k) [] e = absurd cc
 begins-front tag (suc k) (octet ∷ octets) e = e
@@ -140,7 +140,7 @@ module _ (limit all : ℕ) (less : limit ≤ all) where
           rw (k.front, k.all, taken, rest, le-ltb limit (begun.next + length (take k.header octets)) (omega (arith, long, k.fits, within)), le-ltb all (begun.next + length (take k.header octets)) (omega (arith, long, k.fits, within, less)))
           (then (with_head begun tag (take k.header octets) (Some k.size)) (take k.size (drop k.header octets)) (omega (arith, long, k.fits, within)) (omega (arith, length-take k.size (drop k.header octets))))
 
-  abbrev Kept : List Tag → Begun → List ℕ → Type 0
+  abbrev pub Kept : List Tag → Begun → List ℕ → Type 0
   Kept wanted begun octets = ((headed limit begun wanted (take (limit - begun.next) octets)).contents ≡ None) ⊎ HeadsKept limit (headed limit begun wanted (take (limit - begun.next) octets)) (headed all begun wanted octets)
 
   step-front : (begun : Begun) (tag : Tag) (wanted : List Tag) (octets : List ℕ) → begun.next ≤ limit → ((done : Begun) (rest : List ℕ) → done.next ≤ limit → length rest ≤ size_of done.size → Kept wanted done rest) → Kept (tag ∷ wanted) begun octets
@@ -224,7 +224,7 @@ headless limit begun tag wanted octets e = by (begins_with (octet_of tag) octets
     by true b = rw b (headless-by limit begun tag octets (λ next rest. headed limit next wanted rest) e)
     by false b = rw b refl
 
-none-cut : (name : List ℕ) (begun : Begun) (found : Option (List ℕ)) (next : Begun → List ℕ → Items) → found ≡ None → of_contents name begun found next ≡ cut_in (Some name) begun false
+pub none-cut : (name : List ℕ) (begun : Begun) (found : Option (List ℕ)) (next : Begun → List ℕ → Items) → found ≡ None → of_contents name begun found next ≡ cut_in (Some name) begun false
 none-cut name begun found next e = ap (λ f. of_contents name begun f next) e
 
 pub whole-head : (levels limit : ℕ) (fault : Option Refusal) (here : Here) (of : ItemType) (octets : List ℕ) → fronts (suc levels) of ≡ true → (item_items (suc levels) (cut_at limit fault) here of octets).cut ≡ None → head_in octets ≡ None → ⊥
