@@ -20,7 +20,7 @@ use Rattle.krb_items.specs.declared.shape.Leaf.TheVariants as leaves
 use Rattle.krb_items.specs.declared.shape.Shape.{Shape}
 use Rattle.krb_items.specs.declared.shape.Shape.TheVariants as shapes
 use Rattle.krb_items.specs.declared.tag.Tag.{Tag}
-use Rattle.krb_items_laws.proofs.Fronts.{Cut, Exhausted, Front, FrontOf, HeadKept, HeadsKept, Kept, Same, SameCount, begins-front, count-front, cut_at, front-after, front-cut, front-then, fronts, has_tags, head-front, headed-front, none-cut, whole-head}
+use Rattle.krb_items_laws.proofs.FrontHeads.{Cut, Exhausted, Front, FrontOf, HeadKept, HeadsKept, Kept, Same, SameCount, begins-front, count-front, cut_at, front-after, front-cut, front-then, fronts, has_tags, head-front, headed-front, none-cut, whole-head}
 use Rattle.krb_items_laws.proofs.Types.{leaf-holds, leaf_nests, shape_nests}
 
 begins-none : (tags : List Tag) → begins_as tags [] ≡ false
@@ -135,20 +135,21 @@ module _ (limit all : ℕ) (fault other : Option Refusal) (less : limit ≤ all)
   fields-front : (fields : List Field) → list_all (λ field. fronts levels field.of) fields ≡ true → (here : Here) (room : ℕ) (octets : List ℕ) → here.place ≤ limit → length octets ≤ room
       → Front (field_items cut here fields room (take (limit - here.place) octets)) (field_items uncut here fields room octets)
   fields-front [] n here room octets w l = ended-front here room (take (limit - here.place) octets) octets
-  fields-front (field ∷ fields) n here room octets w l = by (begins_as field.of.tags (take (limit - here.place) octets)) refl
+  fields-front (field ∷ fields) n here room octets w l =
+      let f = and_parts (fronts levels field.of) (list_all (λ field. fronts levels field.of) fields) n in
+      by f.0 (fields-front fields f.1) (begins_as field.of.tags (take (limit - here.place) octets)) refl
     where
-      f = and_parts (fronts levels field.of) (list_all (λ field. fronts levels field.of) fields) n
-
-      by : (begins : Bool) → begins_as field.of.tags (take (limit - here.place) octets) ≡ begins → Front (field_items cut here (field ∷ fields) room (take (limit - here.place) octets)) (field_items uncut here (field ∷ fields) room octets)
-      by true e =
+      by : fronts levels field.of ≡ true → Later (λ here room octets. field_items cut here fields room octets) (λ here room octets. field_items uncut here fields room octets) → (begins : Bool) → begins_as field.of.tags (take (limit - here.place) octets) ≡ begins
+          → Front (field_items cut here (field ∷ fields) room (take (limit - here.place) octets)) (field_items uncut here (field ∷ fields) room octets)
+      by f others true e =
           rw (e, begins-as-front field.of.tags (limit - here.place) octets e)
-          (front-then _ _ _ _ (front (named here (field_path here.name field.name)) field.of octets f.0 w)
+          (front-then _ _ _ _ (front (named here (field_path here.name field.name)) field.of octets f w)
           (λ whole. later-front here (named here (field_path here.name field.name)) field.of (λ of octets. number_after of octets here.number) octets room
-          (λ here room octets. field_items cut here fields room octets) (λ here room octets. field_items uncut here fields room octets) f.0 w l
-          (λ o p same. ap (λ c. number_by field.of.shape c here.number) same) whole (fields-front fields f.1) (fields-end fields)))
-      by false e =
+          (λ here room octets. field_items cut here fields room octets) (λ here room octets. field_items uncut here fields room octets) f w l
+          (λ o p same. ap (λ c. number_by field.of.shape c here.number) same) whole others (fields-end fields)))
+      by f others false e =
           rw e
-          (absent-front field here room (limit - here.place) octets _ (λ _. field_items cut here fields room (take (limit - here.place) octets)) (λ _. field_items uncut here fields room octets) l (fields-front fields f.1 here room octets w l) e)
+          (absent-front field here room (limit - here.place) octets _ (λ _. field_items cut here fields room (take (limit - here.place) octets)) (λ _. field_items uncut here fields room octets) l (others here room octets w l) e)
 
   -- ---- the items of a SEQUENCE OF
   elements-end : (of : ItemType) (bound index : ℕ) (after : Here) (room : ℕ) (result : Items) → 0 < room → Front (element_items cut of bound index after room []) result
@@ -166,16 +167,17 @@ module _ (limit all : ℕ) (fault other : Option Refusal) (less : limit ≤ all)
       → Front (element_items cut of bound index here room (take (limit - here.place) octets)) (element_items uncut of more index here room octets)
   elements-front of f zero more index b here room octets w l = stop-front of more index here room (take (limit - here.place) octets) octets l
   elements-front of f (suc bound) zero index b here room octets w l = absurd (omega (arith, b))
-  elements-front of f (suc bound) (suc more) index b here room octets w l = by (begins_as of.tags (take (limit - here.place) octets)) refl
+  elements-front of f (suc bound) (suc more) index b here room octets w l = by (elements-front of f bound more (index + 1) (omega (arith, b))) (begins_as of.tags (take (limit - here.place) octets)) refl
     where
-      by : (begins : Bool) → begins_as of.tags (take (limit - here.place) octets) ≡ begins → Front (element_items cut of (suc bound) index here room (take (limit - here.place) octets)) (element_items uncut of (suc more) index here room octets)
-      by true e =
+      by : Later (λ here room octets. element_items cut of bound (index + 1) here room octets) (λ here room octets. element_items uncut of more (index + 1) here room octets) → (begins : Bool) → begins_as of.tags (take (limit - here.place) octets) ≡ begins
+          → Front (element_items cut of (suc bound) index here room (take (limit - here.place) octets)) (element_items uncut of (suc more) index here room octets)
+      by others true e =
           rw (e, begins-as-front of.tags (limit - here.place) octets e)
           (front-then _ _ _ _ (front (named here (element_path here.name index)) of octets f w)
           (λ whole. later-front here (named here (element_path here.name index)) of (λ of octets. here.number) octets room
           (λ here room octets. element_items cut of bound (index + 1) here room octets) (λ here room octets. element_items uncut of more (index + 1) here room octets) f w l
-          (λ o p same. refl) whole (elements-front of f bound more (index + 1) (omega (arith, b))) (elements-end of bound (index + 1))))
-      by false e = rw e (stop-front of (suc more) index here room (take (limit - here.place) octets) octets l)
+          (λ o p same. refl) whole others (elements-end of bound (index + 1))))
+      by others false e = rw e (stop-front of (suc more) index here room (take (limit - here.place) octets) octets l)
 
   -- ---- contents
   contents-front : (here : Here) (shape : Shape) (begun : Begun) (octets : List ℕ) → begun.next ≤ limit → length octets ≤ size_of begun.size → shape_nests (fronts levels) shape ≡ true
@@ -191,13 +193,14 @@ module _ (limit all : ℕ) (fault other : Option Refusal) (less : limit ≤ all)
 
   -- ---- an item
   pub front-item : FrontOf limit all fault other (suc levels)
-  front-item here of octets f w = by (subst (λ (tags : List Tag). Kept limit all less tags (begun_here here) octets) (sym t.2) (headed-front limit all less (begun_here here) t.0 t.1 octets w))
+  front-item here of octets f w = by (tags-some (suc levels) of f)
     where
-      t = tags-some (suc levels) of f
+      kept : Kept limit all less of.tags (begun_here here) octets → Front (item_items (suc levels) (cut_at limit fault) here of (take (limit - here.place) octets)) (item_items (suc levels) (cut_at all other) here of octets)
+      kept (inl e) = subst (λ (i : Items). Front i (item_items (suc levels) (cut_at all other) here of octets)) (sym (none-cut here.name _ _ _ e)) (front-cut (Some here.name) _ false _)
+      kept (inr k) = rw (k.front_is, k.all_is) (contents-front here of.shape k.done k.contents k.within k.sized (and_parts (has_tags of.tags) (shape_nests (fronts levels) of.shape) f).1)
 
-      by : Kept limit all less of.tags (begun_here here) octets → Front (item_items (suc levels) (cut_at limit fault) here of (take (limit - here.place) octets)) (item_items (suc levels) (cut_at all other) here of octets)
-      by (inl e) = subst (λ (i : Items). Front i (item_items (suc levels) (cut_at all other) here of octets)) (sym (none-cut here.name _ _ _ e)) (front-cut (Some here.name) _ false _)
-      by (inr k) = rw (k.front_is, k.all_is) (contents-front here of.shape k.done k.contents k.within k.sized (and_parts (has_tags of.tags) (shape_nests (fronts levels) of.shape) f).1)
+      by : (tag : Tag) × (wanted : List Tag) × (of.tags ≡ tag ∷ wanted) → Front (item_items (suc levels) (cut_at limit fault) here of (take (limit - here.place) octets)) (item_items (suc levels) (cut_at all other) here of octets)
+      by t = kept (subst (λ (tags : List Tag). Kept limit all less tags (begun_here here) octets) (sym t.2) (headed-front limit all less (begun_here here) t.0 t.1 octets w))
 
 -- ---- all
 pub items-front : (limit all : ℕ) (fault other : Option Refusal) → limit ≤ all → (levels : ℕ) → FrontOf limit all fault other levels

@@ -8,5 +8,6 @@ pub mod Accepted
 pub mod OctetItems
 pub mod PrintedItems
 pub mod PrintedListings
-pub mod Fronts
+pub mod FrontHeads
 pub mod FrontItems
+pub mod FrontMessages

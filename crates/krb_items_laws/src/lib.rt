@@ -2,4 +2,5 @@
 //! contract of a function that does nothing. No library stands on this one.
 #![tactic(auto)]
 
+pub mod fronts;
 pub mod items;

@@ -1,4 +1,3 @@
-use Rattle.krb_items_laws.proofs.FrontItems.{items-front}
 use Rattle.krb_items_laws.proofs.PrintedItems.{items-are-printed}
 use Rattle.krb_items_laws.proofs.PrintedListings.{listings-are-printed}
 use Rattle.krb_items_laws.proofs.items.items_are_printed.Goals as goal

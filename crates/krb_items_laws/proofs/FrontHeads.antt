@@ -10,13 +10,11 @@ use Rattle.krb_der.specs.declared.verdict.Refusal.{Refusal}
 use Rattle.krb_items.specs.Items.{Here, Item, Items, Limits, Part, after_item, begins_as, begun_here, contents_items, cut_in, element_items, ended, field_items, followed_by, goes_on, item_items, not_there, of_contents, of_headed, whole}
 use Rattle.krb_items.specs.Shapes.{Field, ItemType}
 use Rattle.krb_items.specs.declared.tag.Tag.{Tag}
+use Rattle.krb_items_laws.specs.Fronts.{AreFirst}
 use Rattle.krb_items_laws.proofs.Filling.{goes-then}
 use Rattle.krb_items_laws.proofs.Types.{shape_nests}
 
 -- ---- items that are the first of others
-abbrev pub AreFirst : List Item → List Item → Type 0
-AreFirst items others = (rest : List Item) × (others ≡ items ++ rest)
-
 abbrev pub IsCut : Option Part → Type 0
 IsCut None = ⊥
 IsCut (Some part) = Unit {0}
