@@ -1,14 +1,12 @@
 -- Octets that were cut have the first items of the whole ones.
-use Rattle.std.proofs.Common.{◌≡◌, ℕ, ℤ, zero, suc, ◌+◌, ◌-◌, ◌<◌, ◌≤◌, ◌⊎◌, inl, inr, min, Bool, true, false, ◌&&◌, ◌||◌, ◌==◌, nat_lt, ltb, List, [], ◌∷◌, ◌++◌, length, take, drop, Option, Some, None, refl, sym, ◌∙◌, ap, subst, arith, cond, append_assoc, length-take, length-drop, lt-ltb, le-ltb}
+use Rattle.std.proofs.Common.{◌≡◌, ℕ, zero, suc, ◌+◌, ◌-◌, ◌<◌, ◌≤◌, ◌⊎◌, inl, inr, min, Bool, true, false, ◌&&◌, ◌||◌, ◌==◌, nat_lt, List, [], ◌∷◌, ◌++◌, length, take, drop, Option, Some, None, refl, sym, ◌∙◌, ap, subst, arith, append_assoc, length-take, lt-ltb, le-ltb}
 use Rattle.std.proofs.lemmas.Bool.{and_parts, cases_lt}
-use Rattle.std.proofs.lemmas.Bool.Decides.{nat_tests}
 use Rattle.std.proofs.lemmas.List.{drop-take, take-take, take_all}
-use Rattle.std.specs.List.{list_all}
-use Rattle.krb_der.specs.Octets.{begins_with, number, when}
-use Rattle.krb_items.specs.Heads.{Begun, Headed, begun_at, contents_by, contents_in, count_by, count_in, head_in, headed, headed_by, long_head, octet_of, size_of, stopped, with_head, with_unknown}
+use Rattle.krb_der.specs.Octets.{begins_with, number}
+use Rattle.krb_items.specs.Heads.{Begun, Headed, contents_by, contents_in, count_by, count_in, head_in, headed, headed_by, long_head, octet_of, size_of, with_head}
 use Rattle.krb_der.specs.declared.verdict.Refusal.{Refusal}
-use Rattle.krb_items.specs.Items.{Here, Item, Items, Limits, Part, after_item, begins_as, begun_here, contents_items, cut_in, element_items, ended, field_items, followed_by, goes_on, item_items, not_there, of_contents, of_headed, whole}
-use Rattle.krb_items.specs.Shapes.{Field, ItemType}
+use Rattle.krb_items.specs.Items.{Here, Item, Items, Limits, Part, after_item, begun_here, contents_items, cut_in, followed_by, goes_on, item_items, of_contents}
+use Rattle.krb_items.specs.Shapes.{ItemType}
 use Rattle.krb_items.specs.declared.tag.Tag.{Tag}
 use Rattle.krb_items_laws.specs.Fronts.{AreFirst}
 use Rattle.krb_items_laws.proofs.Filling.{goes-then}
@@ -134,7 +132,7 @@ module _ (limit all : ℕ) (less : limit ≤ all) where
           let done : Begun = with_head begun tag (take k.header octets) (Some k.size) in
           let taken : take k.header (take (limit - begun.next) octets) ≡ take k.header octets = take-take k.header (limit - begun.next) octets k.fits in
           let rest : take k.size (drop k.header (take (limit - begun.next) octets)) ≡ take (limit - (begun.next + length (take k.header octets))) (take k.size (drop k.header octets)) =
-              inner-front (limit - begun.next) k.header k.size octets k.fits ∙ ap (λ n. take n (take k.size (drop k.header octets))) (omega (arith, long, k.fits, within)) in
+          inner-front (limit - begun.next) k.header k.size octets k.fits ∙ ap (λ n. take n (take k.size (drop k.header octets))) (omega (arith, long, k.fits, within)) in
           rw (k.front, k.all, taken, rest, le-ltb limit (begun.next + length (take k.header octets)) (omega (arith, long, k.fits, within)), le-ltb all (begun.next + length (take k.header octets)) (omega (arith, long, k.fits, within, less)))
           (then (with_head begun tag (take k.header octets) (Some k.size)) (take k.size (drop k.header octets)) (omega (arith, long, k.fits, within)) (omega (arith, length-take k.size (drop k.header octets))))
 

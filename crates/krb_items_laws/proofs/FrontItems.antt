@@ -1,26 +1,22 @@
 -- The items of messages and Tickets that were cut are the first of the whole ones.
-use Rattle.std.proofs.Common.{◌≡◌, ℕ, ℤ, zero, suc, ◌+◌, ◌-◌, ◌<◌, ◌≤◌, ◌⊎◌, inl, inr, Bool, true, false, ◌&&◌, nat_lt, ltb, List, [], ◌∷◌, ◌++◌, length, take, drop, codes, Option, Some, None, refl, sym, ◌∙◌, ap, subst, arith, cond, length-take, length-drop, lt-ltb, le-ltb}
+use Rattle.std.proofs.Common.{◌≡◌, ℕ, ℤ, zero, suc, ◌+◌, ◌-◌, ◌<◌, ◌≤◌, ◌⊎◌, inl, inr, Bool, true, false, List, [], ◌∷◌, length, take, drop, Option, Some, None, refl, sym, ◌∙◌, ap, subst, arith, cond, length-take, length-drop, lt-ltb, le-ltb}
 use Rattle.std.proofs.lemmas.Bool.{and_parts, cases_lt}
 use Rattle.std.proofs.lemmas.List.{drop-take, take_all}
 use Rattle.std.specs.List.{list_all}
 use Rattle.krb_der.specs.Octets.{when}
 use Rattle.krb_der.specs.declared.verdict.Refusal.{Refusal}
-use Rattle.krb_msg.specs.Views.{kind_name, kind_with_tag}
-use Rattle.krb_msg.specs.declared.message.Kind.{Kind}
-use Rattle.krb_msg.specs.declared.message.Kind.TheVariants as kinds
-use Rattle.krb_items.specs.Heads.{Begun, Headed, begun_at, contents_in, count_in, head_in, headed, octet_of, size_of, with_unknown}
+use Rattle.krb_items.specs.Heads.{Begun, contents_in, count_in, head_in, octet_of, size_of, with_unknown}
 use Rattle.krb_items.specs.Held.{held_name, leaf_after, number_after, number_by, opened}
-use Rattle.krb_items.specs.Items.{Here, Items, after_item, all_items, begins_as, begun_here, container, contents_items, element_items, ended, field_items, followed_by, here_at, here_in, item_items, kind_items, leaf_items, message_items, missing, most_levels, named, not_there, of_contents, of_headed, opened_items, passed, unknown}
+use Rattle.krb_items.specs.Items.{Here, Items, begins_as, begun_here, container, contents_items, element_items, ended, field_items, here_in, item_items, leaf_items, missing, named, not_there, opened_items, passed}
 use Rattle.krb_items.specs.Names.{element_path, field_path}
-use Rattle.krb_items.specs.Shapes.{Field, ItemType, fields_of, held_type, item_of, message_of, ticket}
-use Rattle.krb_items.specs.declared.reaching.Lies.TheVariants as lies
+use Rattle.krb_items.specs.Shapes.{Field, ItemType, fields_of, held_type, item_of}
 use Rattle.krb_items.specs.declared.shape.Held.{Held}
 use Rattle.krb_items.specs.declared.shape.Leaf.{Leaf}
 use Rattle.krb_items.specs.declared.shape.Leaf.TheVariants as leaves
 use Rattle.krb_items.specs.declared.shape.Shape.{Shape}
 use Rattle.krb_items.specs.declared.shape.Shape.TheVariants as shapes
 use Rattle.krb_items.specs.declared.tag.Tag.{Tag}
-use Rattle.krb_items_laws.proofs.FrontHeads.{Cut, Exhausted, Front, FrontOf, HeadKept, HeadsKept, Kept, Same, SameCount, begins-front, count-front, cut_at, front-after, front-cut, front-then, fronts, has_tags, head-front, headed-front, none-cut, whole-head}
+use Rattle.krb_items_laws.proofs.FrontHeads.{Exhausted, Front, FrontOf, HeadKept, Kept, Same, SameCount, begins-front, count-front, cut_at, front-after, front-cut, front-then, fronts, has_tags, head-front, headed-front, none-cut, whole-head}
 use Rattle.krb_items_laws.proofs.Types.{leaf-holds, leaf_nests, shape_nests}
 
 begins-none : (tags : List Tag) → begins_as tags [] ≡ false
@@ -102,12 +98,12 @@ module _ (limit all : ℕ) (fault other : Option Refusal) (less : limit ≤ all)
           (others (passed here (count_in octets) (number of octets)) (room - count_in octets) (drop (count_in octets) octets))
       by (inl s) =
           let d : drop (count_in octets) (take (limit - here.place) octets) ≡ take (limit - (here.place + count_in octets)) (drop (count_in octets) octets) =
-              ap (λ m. drop (count_in octets) (take m octets)) (omega (arith, s.within, w)) ∙ drop-take (count_in octets) (limit - (here.place + count_in octets)) octets in
+          ap (λ m. drop (count_in octets) (take m octets)) (omega (arith, s.within, w)) ∙ drop-take (count_in octets) (limit - (here.place + count_in octets)) octets in
           rw (s.count, same (take (limit - here.place) octets) octets s.contents, d)
           (later (passed here (count_in octets) (number of octets)) (room - count_in octets) (drop (count_in octets) octets) (omega (arith, s.within, w)) (omega (arith, length-drop (count_in octets) octets, l)))
       by (inr e) =
           let d : drop (count_in (take (limit - here.place) octets)) (take (limit - here.place) octets) ≡ [] =
-              ap (λ m. drop m (take (limit - here.place) octets)) e.count ∙ nothing-left (limit - here.place) octets in
+          ap (λ m. drop m (take (limit - here.place) octets)) e.count ∙ nothing-left (limit - here.place) octets in
           rw d (ends _ _ _ (omega (arith, e.count, e.more, l)))
         where
           nothing-left : (k : ℕ) (octets : List ℕ) → drop k (take k octets) ≡ []

@@ -1,12 +1,12 @@
 -- What is listed of messages, Tickets and frames that were cut is the first of what is listed of all of their octets.
-use Rattle.std.proofs.Common.{◌≡◌, ℕ, zero, suc, ◌+◌, ◌-◌, ◌<◌, ◌≤◌, true, false, nat_lt, List, [], ◌∷◌, ◌++◌, length, take, drop, codes, Option, Some, None, refl, sym, ◌∙◌, ap, subst, arith, append-nil, length-take, lt-ltb, le-ltb}
+use Rattle.std.proofs.Common.{◌≡◌, ℕ, zero, suc, ◌+◌, ◌-◌, ◌<◌, ◌≤◌, true, false, List, [], ◌∷◌, length, take, drop, codes, Option, Some, None, refl, sym, ◌∙◌, ap, subst, arith, append-nil, length-take, lt-ltb, le-ltb}
 use Rattle.std.proofs.lemmas.List.{take_all}
 use Rattle.krb_der.specs.Octets.{AreOctets, number}
 use Rattle.krb_der.specs.declared.profile.Profile.{Profile}
 use Rattle.krb_der.specs.declared.verdict.Refusal.{Refusal}
 use Rattle.krb_der.specs.declared.verdict.Verdict.TheVariants as verdict
 use Rattle.krb_der.specs.declared.why.Why.TheVariants as why
-use Rattle.krb_judge.specs.Parses.{refusal_of, ticket_refusal}
+use Rattle.krb_judge.specs.Parses.{refusal_of}
 use Rattle.krb_msg.specs.Grammar.{messages, ticket as ticket_term}
 use Rattle.krb_msg.specs.Judgement.{Done, item_outcome, judgement, message_outcome, term_judgement, verdict_of}
 use Rattle.krb_msg.specs.Profiles.{profile_term}
@@ -19,7 +19,7 @@ use Rattle.krb_msg.proofs.Laws.{IsWhole-done, Settles-item_outcome}
 use Rattle.krb_msg.proofs.Messages.{IsWhole-message, Settles-message_outcome}
 use Rattle.krb_source.specs.declared.layer.Layer.TheVariants.{Frame}
 use Rattle.krb_items.specs.Heads.{begun_at, with_head, with_unknown}
-use Rattle.krb_items.specs.Items.{Here, Items, all_items, begun_here, container, frame_items, here_at, kind_items, message_items, most_levels}
+use Rattle.krb_items.specs.Items.{Here, Items, all_items, begun_here, container, here_at, kind_items, message_items, most_levels}
 use Rattle.krb_items.specs.Reached.{items_as}
 use Rattle.krb_items.specs.Shapes.{message_of, ticket}
 use Rattle.krb_items.specs.declared.reaching.Lies.{Lies}

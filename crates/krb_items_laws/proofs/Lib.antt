@@ -11,3 +11,4 @@ pub mod PrintedListings
 pub mod FrontHeads
 pub mod FrontItems
 pub mod FrontMessages
+pub mod FrontLengths

@@ -1,10 +1,11 @@
 -- The law that what is listed of octets that were cut is the first of what is listed of all of them.
-use Rattle.std.specs.Prelude.{ℕ, ◌≡◌, ◌<◌, List, ◌∷◌, ◌++◌, length, take, None}
+use Rattle.std.specs.Prelude.{ℕ, ◌≡◌, ◌<◌, List, ◌∷◌, ◌++◌, length, take, Option, Some, None}
 use Rattle.krb_der.specs.Octets.{AreOctets}
 use Rattle.krb_der.specs.declared.profile.Profile.{Profile}
+use Rattle.krb_der.specs.declared.verdict.Refusal.{Refusal}
 use Rattle.krb_judge.specs.Parses.{refusal_of, ticket_refusal}
 use Rattle.krb_items.specs.Items.{Item, Items}
-use Rattle.krb_items.specs.Reached.{items_as, limits_by, seen}
+use Rattle.krb_items.specs.Reached.{announced, believed, items_as, limits_by, seen}
 use Rattle.krb_items.specs.declared.reaching.Lies.{Lies}
 use Rattle.krb_items.specs.declared.reaching.Lies.TheVariants as lies
 use Rattle.krb_items_run.specs.Items.{Listable, front_listable}
@@ -35,3 +36,22 @@ TicketFrontsAreFirst = (profile : Profile) (octets : List ℕ) (count : ℕ) →
 abbrev pub FrameFrontsAreFirst : Type 0
 FrameFrontsAreFirst = (profile : Profile) (a b c d : ℕ) (message : List ℕ) (count : ℕ) → AreOctets message → refusal_of profile message ≡ None → count < length (a ∷ b ∷ c ∷ d ∷ message)
     → AreFirst (front_items profile lies.Framed count (a ∷ b ∷ c ∷ d ∷ message)).items (whole_items lies.Framed (a ∷ b ∷ c ∷ d ∷ message)).items
+
+-- the first head of octets is there
+abbrev pub HasFirstHead : Lies → List ℕ → Type 0
+HasFirstHead lies octets = announced lies octets ≡ None → ⊥
+
+-- The first length of octets is believed after what is refused of them, and says that there are so many.
+pub record IsBelieved (lies : Lies) (octets : List ℕ) (refused : Option Refusal) (size : ℕ) : Type 0 where
+  pub refusal : Refusal
+  pub is : refused ≡ Some refusal
+  pub believed : believed lies octets refusal ≡ Some size
+
+-- The first length of a message that is accepted, cut anywhere after its first head, is believed.
+abbrev pub CutMessagesAreBelieved : Type 0
+CutMessagesAreBelieved = (profile : Profile) (octets : List ℕ) (count : ℕ) → AreOctets octets → refusal_of profile octets ≡ None → count < length octets → HasFirstHead lies.Alone (take count octets)
+    → IsBelieved lies.Alone (take count octets) (refusal_of profile (take count octets)) (length octets)
+
+abbrev pub CutTicketsAreBelieved : Type 0
+CutTicketsAreBelieved = (profile : Profile) (octets : List ℕ) (count : ℕ) → AreOctets octets → ticket_refusal profile octets ≡ None → count < length octets → HasFirstHead lies.Ticket (take count octets)
+    → IsBelieved lies.Ticket (take count octets) (ticket_refusal profile (take count octets)) (length octets)

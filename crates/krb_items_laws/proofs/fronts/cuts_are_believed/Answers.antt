@@ -1,0 +1,8 @@
+use Rattle.krb_items_laws.proofs.FrontLengths.{cut-messages-are-believed, cut-tickets-are-believed}
+use Rattle.krb_items_laws.proofs.fronts.cuts_are_believed.Goals as goal
+
+pub returns-clause-message : goal.returns-clause-message
+returns-clause-message c = cut-messages-are-believed
+
+pub returns-clause-ticket : goal.returns-clause-ticket
+returns-clause-ticket c = cut-tickets-are-believed
