@@ -1,6 +1,6 @@
 -- The law that what is listed of octets that were cut is the first of what is listed of all of them.
-use Rattle.std.specs.Prelude.{ℕ, ◌≡◌, ◌<◌, List, ◌∷◌, ◌++◌, length, take, Option, Some, None}
-use Rattle.krb_der.specs.Octets.{AreOctets}
+use Rattle.std.specs.Prelude.{ℕ, ◌≡◌, ◌^◌, ◌<◌, List, [], ◌∷◌, ◌++◌, length, take, Some, None}
+use Rattle.krb_der.specs.Octets.{AreOctets, number}
 use Rattle.krb_der.specs.declared.profile.Profile.{Profile}
 use Rattle.krb_der.specs.declared.verdict.Refusal.{Refusal}
 use Rattle.krb_judge.specs.Parses.{refusal_of, ticket_refusal}
@@ -8,7 +8,7 @@ use Rattle.krb_items.specs.Items.{Item, Items}
 use Rattle.krb_items.specs.Reached.{announced, believed, items_as, limits_by, seen}
 use Rattle.krb_items.specs.declared.reaching.Lies.{Lies}
 use Rattle.krb_items.specs.declared.reaching.Lies.TheVariants as lies
-use Rattle.krb_items_run.specs.Items.{Listable, front_listable}
+use Rattle.krb_items_run.specs.Items.{Listable, front_listable, listable}
 use Rattle.krb_items_laws.specs.Covers.{whole_items}
 
 -- the first items of others, in order
@@ -41,17 +41,22 @@ FrameFrontsAreFirst = (profile : Profile) (a b c d : ℕ) (message : List ℕ) (
 abbrev pub HasFirstHead : Lies → List ℕ → Type 0
 HasFirstHead lies octets = announced lies octets ≡ None → ⊥
 
--- The first length of octets is believed after what is refused of them, and says that there are so many.
-pub record IsBelieved (lies : Lies) (octets : List ℕ) (refused : Option Refusal) (size : ℕ) : Type 0 where
+-- What is refused of octets, as of any input, is such that their first length is believed, by which there are so many.
+pub record AreListedAsCut (profile : Profile) (lies : Lies) (octets : List ℕ) (size : ℕ) : Type 0 where
   pub refusal : Refusal
-  pub is : refused ≡ Some refusal
+  pub is : listable profile octets ≡ Some (record { lies = lies; fault = Some refusal; ntlm = None })
   pub believed : believed lies octets refusal ≡ Some size
 
--- The first length of a message that is accepted, cut anywhere after its first head, is believed.
+-- So it is of a message that is accepted and cut anywhere after its first head: its length is that of all of it.
 abbrev pub CutMessagesAreBelieved : Type 0
 CutMessagesAreBelieved = (profile : Profile) (octets : List ℕ) (count : ℕ) → AreOctets octets → refusal_of profile octets ≡ None → count < length octets → HasFirstHead lies.Alone (take count octets)
-    → IsBelieved lies.Alone (take count octets) (refusal_of profile (take count octets)) (length octets)
+    → AreListedAsCut profile lies.Alone (take count octets) (length octets)
 
 abbrev pub CutTicketsAreBelieved : Type 0
 CutTicketsAreBelieved = (profile : Profile) (octets : List ℕ) (count : ℕ) → AreOctets octets → ticket_refusal profile octets ≡ None → count < length octets → HasFirstHead lies.Ticket (take count octets)
-    → IsBelieved lies.Ticket (take count octets) (ticket_refusal profile (take count octets)) (length octets)
+    → AreListedAsCut profile lies.Ticket (take count octets) (length octets)
+
+-- The first octet of a frame that is told from other octets is 00, and it has fewer than 2^31.
+abbrev pub CutFramesAreBelieved : Type 0
+CutFramesAreBelieved = (profile : Profile) (b c d : ℕ) (message : List ℕ) (count : ℕ) → refusal_of profile message ≡ None → number (0 ∷ b ∷ c ∷ d ∷ []) ≡ length message → length (0 ∷ b ∷ c ∷ d ∷ message) < 2 ^ 31
+    → count < length (0 ∷ b ∷ c ∷ d ∷ message) → HasFirstHead lies.Framed (take count (0 ∷ b ∷ c ∷ d ∷ message)) → AreListedAsCut profile lies.Framed (take count (0 ∷ b ∷ c ∷ d ∷ message)) (length (0 ∷ b ∷ c ∷ d ∷ message))
