@@ -13,3 +13,7 @@ pub mod MaskedSlices
 pub mod MaskedNames
 pub mod Masking
 pub mod MaskedItems
+pub mod FrontHeads
+pub mod FrontItems
+pub mod FrontMessages
+pub mod FrontLengths

@@ -47,12 +47,6 @@ shown-if : (b : Bool) (value other : Value) → IsShown value → IsShown other 
 shown-if true value other v o = v
 shown-if false value other v o = o
 
-number-value : (leaf : Leaf) (number : ℤ) → IsShown (number_value leaf number)
-number-value leaves.Number number = tt
-number-value (leaves.Numbered registry) number = tt
-number-value leaves.ErrorCode number = tt
-number-value other number = tt
-
 identifier-shown : (octets numbers : List ℕ) → AreOctets octets → IsShown (identifier_by octets numbers)
 identifier-shown octets numbers a =
     shown-if (list_all (λ number. nat_lt number (2 ^ 64)) numbers) _ _
