@@ -71,7 +71,7 @@ fills-at all place other depth octets items same fills = subst (λ (p : ℕ). Fi
 pub fills-none : (all : List ℕ) (place depth : ℕ) → Fills all place depth [] (whole [])
 fills-none all place depth = record { whole = refl; first = tt; follows = λ others s o. subst (λ (p : ℕ). AreInOrder all p others) (omega arith) o }
 
-goes-then : (items : List Item) (cut : Option Part) (next : Unit {0} → Items) → cut ≡ None → goes_on items cut next ≡ record { items = items ++ (next tt).items; cut = (next tt).cut }
+pub goes-then : (items : List Item) (cut : Option Part) (next : Unit {0} → Items) → cut ≡ None → goes_on items cut next ≡ record { items = items ++ (next tt).items; cut = (next tt).cut }
 goes-then items cut next is = ap (λ c. goes_on items c next) is
 
 -- items, and those after them

@@ -8,3 +8,12 @@ pub mod Accepted
 pub mod OctetItems
 pub mod PrintedItems
 pub mod PrintedListings
+pub mod MaskedHeads
+pub mod MaskedSlices
+pub mod MaskedNames
+pub mod Masking
+pub mod MaskedItems
+pub mod FrontHeads
+pub mod FrontItems
+pub mod FrontMessages
+pub mod FrontLengths

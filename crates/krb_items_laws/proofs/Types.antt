@@ -120,6 +120,10 @@ leaf-opens inner number (leaves.Holder holder) term octets held n l e =
     record { is = o.1; nested = held-after (λ held. inner (held_type held)) holder number held n o.0; octet_string = holder-octets holder term l }
 leaf-opens inner number other term octets held n l e = absurd cc
 
+pub leaf-holds : (inner : ItemType → Bool) (number : Option ℤ) (leaf : Leaf) (octets : List ℕ) (held : Held) → leaf_nests inner leaf ≡ true → opened number leaf octets ≡ Some held → inner (held_type held) ≡ true
+leaf-holds inner number (leaves.Holder holder) octets held n e = held-after (λ held. inner (held_type held)) holder number held n (opens-as (held_after holder number) octets held e).0
+leaf-holds inner number other octets held n e = absurd cc
+
 -- ---- tags
 pub tag-octet : (tag : Tag) (term : Term) → is_small tag ≡ true → is_tag tag term ≡ true → octet_of tag ≡ tag_of term
 tag-octet tags.Integer (Integer low high) s e = refl

@@ -2,4 +2,6 @@
 //! contract of a function that does nothing. No library stands on this one.
 #![tactic(auto)]
 
+pub mod fronts;
 pub mod items;
+pub mod masked;
