@@ -32,7 +32,7 @@ module _ (profile : Profile) (limit : ℕ) (side : Message × Message → Messag
 
 -- what is listed of them
 module _ (prefix_free : DerIsPrefixFree) where
-  same-message : (m n : Message) → message_der m ≡ message_der n → m ≡ n
+  pub same-message : (m n : Message) → message_der m ≡ message_der n → m ≡ n
   same-message m n e = (prefix_free m n [] [] (ap (λ d. d ++ []) e)).0
 
   same-listed : (one other : Listed) → entry_of one ≡ entry_of other → one ≡ other
@@ -41,7 +41,7 @@ module _ (prefix_free : DerIsPrefixFree) where
   same-listed (Faulty place reason prefix) (Whole n) e = absurd cc
   same-listed (Faulty place reason prefix) (Faulty at why octets) e = cc
 
-  same-all : (one other : List Listed) → map entry_of one ≡ map entry_of other → one ≡ other
+  pub same-all : (one other : List Listed) → map entry_of one ≡ map entry_of other → one ≡ other
   same-all [] [] e = refl
   same-all [] (b ∷ other) e = absurd cc
   same-all (a ∷ one) [] e = absurd cc

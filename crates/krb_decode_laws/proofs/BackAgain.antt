@@ -22,10 +22,12 @@ use Rattle.krb_run.specs.Conversions.{after_text}
 use Rattle.krb_run.specs.TextLines.{is_blank_line, parts, without_empty_last}
 use Rattle.krb_run.proofs.SourceLineParts.{lines-empty}
 use Rattle.krb_tool.specs.GoingOn.{Faulty, Listed, Whole}
+use Rattle.krb_tool_laws.specs.Listings.{AreRead}
 use Rattle.krb_tool_laws.proofs.CaptureFindings.{AreFindings}
-use Rattle.krb_capture.specs.Captures.{Finding}
+use Rattle.krb_capture.specs.Captures.{Finding, Settings}
 use Rattle.krb_capture.specs.Found.{Begun, Failed, Faulty as FaultyMessage, Joined, Missing, Password, Sent, Unread, Whole as WholeMessage}
 use Rattle.krb_capture_run.specs.Laws.{capture_told}
+use Rattle.krb_decode.specs.Streams.{IsDecoded}
 use Rattle.krb_decode_laws.specs.Captures.{CapturesComeBack, messages_in, sealed_in}
 use Rattle.krb_decode_laws.specs.Messages.{frames_of, is_sealed}
 use Rattle.krb_decode_laws.specs.Streams.{StreamsComeBack, whole_in}
@@ -97,12 +99,16 @@ both-of : (limit : ℕ) (all : List Message) → AllByRecursion (IsInProfile Len
 both-of limit [] each few = tt
 both-of limit (m ∷ others) each few = (record { in_profile = each.0; short = few.0 }, both-of limit others each.1 few.1)
 
-pub captures_come_back : CapturePremises → Texts → CapturesComeBack
-captures_come_back p texts settings file limit are few =
+pub sealed-spelled : (p : CapturePremises) (settings : Settings) (file : List ℕ) (limit : ℕ) → AreRead file → AllByRecursion (λ (m : Message). length (message_der m) ≤ limit) (sealed_in (capture_told settings (packets file).items)) → AllByRecursion (IsSpelled Lenient limit) (sealed_in (capture_told settings (packets file).items))
+sealed-spelled p settings file limit are few =
     let all : List Finding = capture_told settings (packets file).items in
     let each : AreFindings all = subst AreFindings (found-is p settings file) (good-of p settings.profile settings.limit settings.port None file are) in
+    both-of limit (sealed_in all) (kept (IsInProfile Lenient) (messages_in all) (lenient-messages all each)) few
+
+pub captures_come_back : CapturePremises → Texts → CapturesComeBack
+captures_come_back p texts settings file limit are few =
     ap (encoded true Lenient limit) (captures_listed p settings file are).messages
-    ∙ text-back texts Lenient limit (sealed_in all) (both-of limit (sealed_in all) (kept (IsInProfile Lenient) (messages_in all) (lenient-messages all each)) few)
+    ∙ text-back texts Lenient limit (sealed_in (capture_told settings (packets file).items)) (sealed-spelled p settings file limit are few)
 
 -- ---- streams
 pub spelled-messages : (p : StreamPremises) (profile : Profile) (limit : ℕ) (all : List Listed) → AreGood p profile limit all → AllByRecursion (IsSpelled profile limit) (whole_in all)
@@ -110,7 +116,11 @@ spelled-messages p profile limit [] each = tt
 spelled-messages p profile limit (Whole m ∷ others) each = (record { in_profile = in-profile p profile limit m each.0; short = each.0.1.within }, spelled-messages p profile limit others each.1)
 spelled-messages p profile limit (Faulty place reason prefix ∷ others) each = spelled-messages p profile limit others each.1
 
+pub sealed-whole : (p : StreamPremises) (profile : Profile) (limit : ℕ) (stream text : List ℕ) → AreRead stream → (decoding : IsDecoded profile limit stream text) → AllByRecursion (IsSpelled profile limit) (filter is_sealed (whole_in decoding.found))
+sealed-whole p profile limit stream text are decoding =
+    kept (IsSpelled profile limit) (whole_in decoding.found) (spelled-messages p profile limit decoding.found (good p profile limit stream text are decoding))
+
 pub streams_come_back : StreamPremises → Texts → StreamsComeBack
 streams_come_back p texts profile limit stream text are decoding =
     ap (encoded true profile limit) (streams_listed p profile limit stream text are decoding).messages
-    ∙ text-back texts profile limit (filter is_sealed (whole_in decoding.found)) (kept (IsSpelled profile limit) (whole_in decoding.found) (spelled-messages p profile limit decoding.found (good p profile limit stream text are decoding)))
+    ∙ text-back texts profile limit (filter is_sealed (whole_in decoding.found)) (sealed-whole p profile limit stream text are decoding)

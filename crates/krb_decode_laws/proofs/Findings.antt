@@ -22,7 +22,7 @@ module _ (settings : Settings) (label : Label) where
   abbrev other : Settings
   other = record settings { label = label }
 
-  same-packet : (packet : Packet) (progress : Progress) → packet_told other packet progress ≡ packet_told settings packet progress
+  pub same-packet : (packet : Packet) (progress : Progress) → packet_told other packet progress ≡ packet_told settings packet progress
   unfolding packet_told packet_taken
   same-packet packet progress = refl
 

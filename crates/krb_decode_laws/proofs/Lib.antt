@@ -1,3 +1,4 @@
+pub mod AlikeCaptures
 pub mod AlikeInputs
 pub mod AlikeStreams
 pub mod BackAgain
@@ -11,6 +12,7 @@ pub mod FoundLines
 pub mod InputEnds
 pub mod InputLines
 pub mod InputsBack
+pub mod ListedAgain
 pub mod ListedMessages
 pub mod MaskedSizes
 pub mod OnePacket

@@ -7,6 +7,7 @@ use Rattle.krb_der.specs.declared.profile.Profile.TheVariants.{Lenient}
 use Rattle.krb_msg.specs.Views.{message_der, message_of_der}
 use Rattle.krb_msg.specs.declared.message.Message.{Message}
 use Rattle.krb_json.specs.Lines.{line_of}
+use Rattle.krb_json.specs.Masked.{masked_in}
 use Rattle.krb_json.specs.Unencrypted.{unencrypted_in}
 use Rattle.krb_packet.specs.Captures.{packets}
 use Rattle.krb_record.specs.Labels.{no_label}
@@ -14,7 +15,7 @@ use Rattle.krb_record.specs.declared.capture.CaptureCounts.{CaptureCounts}
 use Rattle.krb_record.specs.declared.form.Form.TheVariants.{NamedLines}
 use Rattle.krb_capture.specs.Captures.{Finding, Settings, all_counts, at_first, end_taken}
 use Rattle.krb_capture.specs.Decoded.{not_encrypted}
-use Rattle.krb_capture.specs.Found.{Faulty, Found, Missing, Unread, Whole, listed_line}
+use Rattle.krb_capture.specs.Found.{Faulty, Found, Missing, Password, Unread, Whole, listed_line}
 use Rattle.krb_capture.specs.Labels.{of_records}
 use Rattle.krb_run.specs.Records.{RecordListing, text_of}
 use Rattle.krb_run.specs.declared.run.RunEnd.TheVariants as run
@@ -22,7 +23,7 @@ use Rattle.krb_tool_laws.specs.Listings.{ArePrintedLines, AreRead}
 use Rattle.krb_capture_run.specs.Captures.{after_packets}
 use Rattle.krb_capture_run.specs.Decoded.{decoded_capture}
 use Rattle.krb_capture_run.specs.Laws.{capture_told}
-use Rattle.krb_decode_laws.specs.Messages.{frames_of, is_sealed}
+use Rattle.krb_decode_laws.specs.Messages.{AreListedAs, frames_of, is_sealed}
 use Rattle.krb_decode.specs.Sorted.{is_any, lines_after, message_lines, sorted_end, told_lines}
 
 -- ---- messages
@@ -66,6 +67,12 @@ CapturesComeBack =
     (settings : Settings) (file : List ℕ) (limit : ℕ) → AreRead file → AllByRecursion (λ (m : Message). length (message_der m) ≤ limit) (sealed_in (capture_told settings (packets file).items))
     → encoded true Lenient limit (message_lines (text_of (decoded_by settings None file))) ≡ record { text = frames_of (sealed_in (capture_told settings (packets file).items)); end = All }
 
+-- What is encoded of them is listed as these messages: by their records, without the origins.
+abbrev pub CapturesAreListedAgain : Type 0
+CapturesAreListedAgain =
+    (settings : Settings) (file : List ℕ) (limit : ℕ) → AreRead file → AllByRecursion (λ (m : Message). length (message_der m) ≤ limit) (sealed_in (capture_told settings (packets file).items))
+    → AreListedAs Lenient limit (sealed_in (capture_told settings (packets file).items)) (encoded true Lenient limit (message_lines (text_of (decoded_by settings None file)))).text
+
 -- ---- packets
 -- The messages of each packet, one after another, are those of the capture.
 abbrev pub PacketsAreTheCapture : Type 0
@@ -94,3 +101,27 @@ pub record AreDecodedLines (text : List ℕ) : Type 0 where
 
 abbrev pub DecodedIsLines : Type 0
 DecodedIsLines = (settings : Settings) (packet : Option ℕ) (file : List ℕ) → AreRead file → AreDecodedLines (text_of (decoded_by settings packet file))
+
+-- ---- what is not encrypted is not decoded
+-- What is found is the same, or messages that differ in nothing but the ciphers of EncryptedDatas of encryption type 0. Of a message that changes a password only the parts are decoded, which are found beside it.
+abbrev pub IsFoundAlike : Found → Found → Type 0
+IsFoundAlike (Whole one) (Whole other) = masked_in (message_of_der one) ≡ masked_in (message_of_der other)
+IsFoundAlike (Password one version ap rest) (Password other number first last) = Unit {0}
+IsFoundAlike found other = found ≡ other
+
+-- each with the same origin
+abbrev pub AreFindingsAlike : List Finding → List Finding → Type 0
+AreFindingsAlike [] [] = Unit {0}
+AreFindingsAlike (one ∷ found) (other ∷ others) = (one.0 ≡ other.0) × (IsFoundAlike one.1 other.1 × AreFindingsAlike found others)
+AreFindingsAlike found others = ⊥
+
+-- Captures in which such is found, and as much counted, and which are read up to the same end or fault.
+pub record AreCapturesAlike (settings : Settings) (file other : List ℕ) : Type 0 where
+  pub found : AreFindingsAlike (capture_told settings (packets file).items) (capture_told settings (packets other).items)
+  pub counts : counts_of settings file ≡ counts_of settings other
+  pub end : (packets file).end ≡ (packets other).end
+
+-- They are decoded to the same text, of what is written and of what is said, and their runs end alike.
+pub record CapturesAreDecodedAlike : Type 0 where
+  pub text : (settings : Settings) (file other : List ℕ) → AreCapturesAlike settings file other → text_of (decoded_by settings None file) ≡ text_of (decoded_by settings None other)
+  pub end : (settings : Settings) (file other : List ℕ) → AreCapturesAlike settings file other → (decoded_by settings None file).end ≡ (decoded_by settings None other).end

@@ -20,7 +20,7 @@ use Rattle.krb_decode.specs.Decoded.{not_encrypted}
 use Rattle.krb_decode.specs.Sorted.{is_any, lines_after, message_lines, sorted_end, told_lines}
 use Rattle.krb_decode.specs.Streams.{IsDecoded, message_opening, named}
 use Rattle.krb_decode_laws.specs.Captures.{AreDecodedLines}
-use Rattle.krb_decode_laws.specs.Messages.{frames_of, is_sealed}
+use Rattle.krb_decode_laws.specs.Messages.{AreListedAs, frames_of, is_sealed}
 
 -- ---- what is decoded is the listing
 -- the messages of frames, in order
@@ -51,6 +51,12 @@ abbrev pub StreamsComeBack : Type 0
 StreamsComeBack =
     (profile : Profile) (limit : ℕ) (stream text : List ℕ) → AreRead stream → (decoding : IsDecoded profile limit stream text)
     → encoded true profile limit (message_lines text) ≡ record { text = frames_of (filter is_sealed (whole_in decoding.found)); end = encoding.All }
+
+-- What is encoded of them is listed as these messages.
+abbrev pub StreamsAreListedAgain : Type 0
+StreamsAreListedAgain =
+    (profile : Profile) (limit : ℕ) (stream text : List ℕ) → AreRead stream → (decoding : IsDecoded profile limit stream text)
+    → AreListedAs profile limit (filter is_sealed (whole_in decoding.found)) (encoded true profile limit (message_lines text)).text
 
 -- ---- how it ends
 -- A run ends clean if nothing is told, and only then; and then there are as many lines as messages.

@@ -1,10 +1,10 @@
 //! Laws of what is decoded of captures. Each is the contract of a function that does nothing.
-ghost use Rattle.krb_decode_laws.specs.Captures.{CapturesComeBack, CapturesEndAsTold, DecodedIsLines, DecodedIsTheListing, PacketsAreTheCapture};
+ghost use Rattle.krb_decode_laws.specs.Captures.{CapturesAreListedAgain, CapturesComeBack, CapturesEndAsTold, DecodedIsLines, DecodedIsTheListing, PacketsAreTheCapture};
 
 use krb_frame::law::refusals_are_inside;
 use krb_judge::law::refusals_are_inside as slices_are_refused_inside;
 use krb_message_laws::message_json::{texts_are_json, texts_are_short, texts_come_back};
-use krb_msg::law::message_of_der_is_message;
+use krb_msg::law::{der_is_prefix_free, message_of_der_is_message};
 use krb_text_laws::text::capture_is_one_line_each;
 
 /// What is decoded of a capture is its listing: of the messages that have records there each sealed one
@@ -32,6 +32,21 @@ pub fn captures_come_back()
     texts_are_json();
     texts_are_short();
     texts_come_back();
+}
+
+/// What is encoded of the lines of a capture is listed, by [`run_stream`](krb_tool::run_stream) or going
+/// on after refusals, by the records of its sealed messages without their origins, and nothing is refused.
+pub fn captures_are_listed_again()
+    ensures { CapturesAreListedAgain }
+{
+    message_of_der_is_message();
+    slices_are_refused_inside();
+    refusals_are_inside();
+    capture_is_one_line_each();
+    texts_are_json();
+    texts_are_short();
+    texts_come_back();
+    der_is_prefix_free();
 }
 
 /// The messages that are decoded of each packet alone, one after another, are those of the capture.

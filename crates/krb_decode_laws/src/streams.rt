@@ -1,6 +1,6 @@
 //! Laws of what is decoded of streams that go on after what is refused. Each is the contract of a
 //! function that does nothing.
-ghost use Rattle.krb_decode_laws.specs.Streams.{DecodedIsLines, DecodedIsTheListing, GoingOnChangesNothing, StreamsComeBack, StreamsEndAsTold};
+ghost use Rattle.krb_decode_laws.specs.Streams.{DecodedIsLines, DecodedIsTheListing, GoingOnChangesNothing, StreamsAreListedAgain, StreamsComeBack, StreamsEndAsTold};
 
 use krb_frame::law::refusals_are_inside;
 use krb_message_laws::message_json::{texts_are_json, texts_are_short, texts_come_back};
@@ -22,6 +22,19 @@ pub fn decoded_is_the_listing()
 /// of its sealed messages, by the same profile and limit.
 pub fn streams_come_back()
     ensures { StreamsComeBack }
+{
+    der_is_prefix_free();
+    refusals_are_inside();
+    end_is_one_line();
+    texts_are_json();
+    texts_are_short();
+    texts_come_back();
+}
+
+/// What is encoded of the lines of a stream that goes on is listed by the records of its sealed messages,
+/// and nothing is refused.
+pub fn streams_are_listed_again()
+    ensures { StreamsAreListedAgain }
 {
     der_is_prefix_free();
     refusals_are_inside();

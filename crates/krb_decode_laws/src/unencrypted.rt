@@ -1,5 +1,6 @@
 //! Laws that what is not encrypted is not decoded, and no key. Each is the contract of a function that
 //! does nothing.
+ghost use Rattle.krb_decode_laws.specs.Captures.{CapturesAreDecodedAlike};
 ghost use Rattle.krb_decode_laws.specs.Inputs.{InputsAreDecodedAlike, KeytabsAreNotRead};
 ghost use Rattle.krb_decode_laws.specs.Streams.{StreamsAreDecodedAlike};
 
@@ -21,6 +22,14 @@ pub fn streams_are_decoded_alike()
 {
     unencrypted_changes_nothing();
     der_is_prefix_free();
+}
+
+/// Captures in which the same is found, but for the ciphers of EncryptedDatas of encryption type 0 in
+/// messages, are decoded to the same text, of what is written and of what is said, and end alike.
+pub fn captures_are_decoded_alike()
+    ensures { CapturesAreDecodedAlike }
+{
+    unencrypted_changes_nothing();
 }
 
 /// Of a keytab the first two octets alone decide that it is one, and nothing of the others is said.
