@@ -1,6 +1,7 @@
-"""Says how much memory bin/krbls has on what costs it most: captures of 65536 directions of connections that each
-have the first octets of a frame, of requests and SYNs that nothing answers, a stream of one frame of 16 MiB, of the smallest items, strings without octets, a
-capture of one packet of 16 MiB of frames without octets, and captures of packets in packets. And of 1 GiB of connections that end."""
+"""Says how much memory bin/krbls has on what costs it most: captures of 65536 directions of connections that each have
+the first octets of a frame, of requests and SYNs that nothing answers, a stream of one frame of 16 MiB, of the smallest
+items, strings without octets, a capture of one packet of 16 MiB of frames without octets, and captures of packets in
+packets; messages of the smallest items, listed item by item; and 1 GiB of connections that end."""
 
 import itertools
 import struct
@@ -10,7 +11,9 @@ import envelopes
 from capture import ACK, CAPTURE, ETHERNET, MIB, STREAM, SYN, Connections, ends, segment
 from frames import real_frames
 from timing import most_octets
+from worst_streams import LONG
 
+ITEMS = ["bin/krbls", "items"]
 DIRECTIONS = 65536
 PRESENT = (512, 1024, 2048)
 FRAME = 16 * MIB
@@ -122,6 +125,8 @@ def main():
         print_memory(" ".join(["requests and SYNs that are open", *form]), [*CAPTURE, *form], capture(sendings()))
     for name, packets in envelopes.PACKETS.items():
         print_memory(name, CAPTURE, within(capture(packets(FRAME), envelopes.RAW), FRAME))
+    for size, kind in itertools.product((MIB, 4 * MIB, 15 * MIB), ("PA-DATA", "encryption types")):
+        print_memory(f"items of {kind}", ITEMS, [LONG[kind](size)])
     print_memory("connections that end", CAPTURE, within(capture(ended_connections()), ALL))
 
 

@@ -7,6 +7,7 @@ from items import OCTET_STRING, SEQUENCE, STRING, TIME, encrypted, integer, item
 STREAM = ["stream"]
 GOING_ON = ["stream", "--keep-going"]
 MESSAGE = ["message"]
+ITEMS = ["items"]
 
 AS_REQ, AS_REP, TGS_REQ, AP_REQ, AP_REP, KRB_SAFE, KRB_ERROR = 10, 11, 12, 14, 15, 20, 30
 PREAUTH_REQUIRED = 25
@@ -146,5 +147,6 @@ def cases(size):
                 yield f"{title} {name}, {frame}", command, lambda: frames(maker(octets), size)
     for name, maker in (LONG | LONG_REFUSED).items():
         yield f"message with {name}", MESSAGE, lambda: digits(maker, size)
+        yield f"items of a message with {name}", ITEMS, lambda: maker(size - 400)
     yield "message in lines of a digit", MESSAGE, lambda: b"\n".join(map(b"%c".__mod__, digits(LONG["a realm"], size // 2)))
     yield "message of blanks", MESSAGE, lambda: b" " * (size - 1)

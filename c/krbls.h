@@ -126,6 +126,12 @@ enum krbls_status krbls_path(enum krbls_profile profile, size_t n, const uint8_t
 enum krbls_status krbls_message(enum krbls_form form, enum krbls_profile profile, const uint8_t *octets,
                                 size_t octets_size, uint8_t *text, size_t room, size_t *size);
 
+/* Where each item of what krbls_message reads is in these octets: a line for each field, pre-authentication data in the clear and
+ * layers among them, and then one for the end, or for the item at fault, what is reached if the first length is believed, and
+ * the refusal. */
+enum krbls_status krbls_items(enum krbls_form form, enum krbls_profile profile, const uint8_t *octets, size_t octets_size,
+                              uint8_t *text, size_t room, size_t *size);
+
 /* Framed messages, up to their end or the first refusal, or, unless going_on is 0, also after refusals, as with
  * `--keep-going`. The limit is that of krbls_frame. */
 enum krbls_status krbls_stream(enum krbls_form form, enum krbls_profile profile, uint32_t limit, uint32_t going_on,

@@ -2,6 +2,7 @@
 
 import datetime
 import io
+import json
 import os
 import pathlib
 import subprocess
@@ -249,6 +250,20 @@ class Library(unittest.TestCase):
                 self.assertLessEqual(at + length, len(octets))
                 if record["kind"] in ("entry", "hole"):
                     self.assertEqual(abs(int.from_bytes(octets[at - 4 : at], "big", signed=True)), length)
+
+    def test_items(self):
+        frame = len(AP_REP).to_bytes(4, "big") + AP_REP
+        *items, end = krbls.items(frame)
+        self.assertEqual(end, {"kind": "end", "items": len(items)})
+        self.assertEqual([item["name"] for item in items][:3], ["frame", "AP-REP", "AP-REP.pvno"])
+        for item in items:
+            self.assertEqual(frame[item["at"] : item["contents"]].hex(), "".join(item["heads"]))
+        self.assertEqual(items[2]["value"], frame[items[2]["contents"]])
+        *_, fault, refused = krbls.items(frame.replace(b"\5", b"\4", 1))
+        self.assertEqual((fault["kind"], fault["octet"], refused["place"]), ("fault", "04", fault["place"]))
+        words = os.environ["KRBLS"], "items", "--json", "--strict"
+        output = subprocess.run(words, input=frame, capture_output=True, check=True).stdout
+        self.assertEqual(krbls.items(frame, strict=True), [json.loads(line) for line in output.splitlines()])
 
     def test_fields(self):
         octets = MORNING.read_bytes()

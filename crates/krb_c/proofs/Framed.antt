@@ -1,5 +1,5 @@
 -- Frames that are added one after another.
-use Rattle.std.proofs.Common.{◌≡◌, ℕ, suc, zero, ◌+◌, ◌<◌, Bool, true, false, ◌&&◌, List, [], ◌++◌, length, Option, Some, None, refl, sym, ◌∙◌, ap, subst, append-nil, append_assoc, arith}
+use Rattle.std.proofs.Common.{◌≡◌, ℕ, suc, zero, ◌+◌, ◌<◌, Bool, true, false, ◌&&◌, List, ◌++◌, length, Option, Some, None, refl, sym, ◌∙◌, ap, subst, append-nil, append_assoc, arith}
 use Rattle.krb_der.specs.declared.profile.Profile.{Profile}
 use Rattle.krb_c.specs.Spans.{Spanned, both, frame_at, frames_from, nothing, stream_spans}
 use Rattle.krb_c.specs.inner.Adding.{Adds, AddsFirst, IsWithin, rest_at}

@@ -1,12 +1,12 @@
 -- Items of a file that are read one after another, and whose octets are added.
-use Rattle.std.proofs.Common.{◌≡◌, ℕ, suc, zero, ◌+◌, ◌<◌, Bool, true, false, List, [], ◌++◌, length, Option, Some, None, Result, Ok, Err, refl, sym, ◌∙◌, ap, subst, append-nil, arith}
+use Rattle.std.proofs.Common.{◌≡◌, ℕ, suc, zero, ◌+◌, ◌<◌, Bool, true, false, List, [], ◌++◌, Option, Some, None, Result, Ok, Err, refl, sym, ◌∙◌, ap, subst, append-nil, arith}
 use Rattle.krb_file.specs.FieldReaders.{BeginsWith, Cursor, FailsBy, HasMet, HasRead, MayRemain, source_at}
 use Rattle.krb_file.specs.Fields.{Bounds, Fault, Reader, Source, begun_at, fault_begun, limited, one_part, source_of}
 use Rattle.krb_file.specs.declared.fault.FileFault.{FileFault}
 use Rattle.krb_file.specs.declared.fault.FileFault.TheVariants as faults
 use Rattle.krb_file_run.specs.Files.{field_limit}
 use Rattle.krb_c.specs.FileSpans.{item_and, items_from, read_and}
-use Rattle.krb_c.specs.Spans.{Spanned, both, nothing, refused_up_to, up_to}
+use Rattle.krb_c.specs.Spans.{Spanned, both, refused_up_to, up_to}
 use Rattle.krb_c.specs.inner.Adding.{Adds}
 use Rattle.krb_c.specs.inner.Items.{AddsFault, AddsItem}
 use Rattle.krb_c.specs.declared.spans.Spans.{Spans}

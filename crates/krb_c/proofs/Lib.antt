@@ -5,3 +5,5 @@ mod Items
 mod Files
 mod Sorted
 mod Worded
+mod Told
+mod Within

@@ -1,5 +1,5 @@
 -- Where the octets lie of the records of a keytab, and of a credential cache.
-use Rattle.std.specs.Prelude.{ℕ, suc, zero, ◌+◌, ◌*◌, ◌==◌, if◌then◌else◌, Bool, true, false, List, [], ◌∷◌, length, Option, Result, Ok, Err}
+use Rattle.std.specs.Prelude.{ℕ, suc, zero, ◌+◌, ◌*◌, ◌==◌, if◌then◌else◌, Bool, true, false, List, [], ◌∷◌, length, Result, Ok, Err}
 use Rattle.std.specs.Option.{is_some}
 use Rattle.krb_ccache.specs.Reading.{next_at, one_enctype}
 use Rattle.krb_ccache.specs.Streaming.{file_start}

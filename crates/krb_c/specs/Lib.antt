@@ -7,4 +7,5 @@ pub mod Turned
 pub mod Rows
 pub mod Spans
 pub mod FileSpans
+pub mod Spanned
 pub mod inner

@@ -8,6 +8,7 @@ use Rattle.krb_capture_run.specs.Captures.{capture_listing}
 use Rattle.krb_run.specs.Records.{RecordListing, text_of}
 use Rattle.krb_file_run.specs.Files.{ccache_listing, keytab_listing}
 use Rattle.krb_run.specs.Files.{FileListing}
+use Rattle.krb_items_run.specs.Items.{octets_items_listing}
 use Rattle.krb_tool.specs.GoingOn.{ListsStream}
 use Rattle.krb_tool.specs.Messages.{octets_listing}
 use Rattle.krb_run.specs.declared.run.RunEnd.{RunEnd}
@@ -18,6 +19,10 @@ IsOf listing text end = (text ≡ listing.text) × (end ≡ listing.end)
 
 abbrev pub IsMessageListing : Form → Profile → List ℕ → List ℕ → RunEnd → Type 0
 IsMessageListing form profile octets = IsOf (octets_listing form profile octets)
+
+-- where each item of a message is, or those up to its refusal
+abbrev pub IsItemsListing : Form → Profile → List ℕ → List ℕ → RunEnd → Type 0
+IsItemsListing form profile octets = IsOf (octets_items_listing form profile octets)
 
 -- The listing of a stream. The run over it had all the octets, and wrote the text after nothing; those after a refusal that ends it may be left.
 abbrev pub IsStreamListing : (goes_on : Bool) → Form → Profile → (limit : ℕ) → List ℕ → List ℕ → RunEnd → Type 0

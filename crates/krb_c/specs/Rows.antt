@@ -1,9 +1,8 @@
 -- What C is given of records in rows of cells: by names, of the listing of a kind.
-use Rattle.std.specs.Prelude.{ℕ, ◌≡◌, ◌==◌, ◌-◌, ◌++◌, Bool, false, if◌then◌else◌, List, [], ◌∷◌, length, take, drop, Option}
+use Rattle.std.specs.Prelude.{ℕ, ◌≡◌, ◌==◌, ◌-◌, ◌++◌, Bool, false, if◌then◌else◌, List, [], ◌∷◌, length, take, drop}
 use Rattle.krb_choice.specs.Choices.{Choice}
 use Rattle.krb_choice.specs.Wanted.{choice_form}
 use Rattle.krb_choosing.specs.Listings.{chosen_listing, told_listing}
-use Rattle.krb_der.specs.declared.profile.Profile.{Profile}
 use Rattle.krb_fields.specs.declared.shape.Listing.{Listing}
 use Rattle.krb_fields.specs.declared.shape.Listing.TheVariants as listing
 use Rattle.krb_input.specs.Sources.{command_for}

@@ -1,6 +1,5 @@
 -- What C is given of messages as lines of JSON, and of lines as messages: what the commands do.
-use Rattle.std.specs.Prelude.{ℕ, ◌≡◌, ◌==◌, ◌++◌, Bool, true, false, if◌then◌else◌, List, [], ◌∷◌, codes, Option, Some, None}
-use Rattle.std.specs.Option.{unwrap_or}
+use Rattle.std.specs.Prelude.{ℕ, ◌≡◌, ◌==◌, ◌++◌, Bool, true, false, if◌then◌else◌, List, [], ◌∷◌, codes, flat_map, Some}
 use Rattle.krb_der.specs.declared.profile.Profile.{Profile}
 use Rattle.krb_input.specs.Sources.{command_for}
 use Rattle.krb_input.specs.declared.source_kind.SourceKind.{SourceKind}
@@ -20,6 +19,7 @@ use Rattle.krb_decode.specs.Caches.{decoded_cache}
 use Rattle.krb_decode.specs.Given.{decoded_given}
 use Rattle.krb_decode.specs.Streams.{DecodesStream}
 use Rattle.krb_decode.specs.Hints.{keytab_text}
+use Rattle.krb_decode.specs.Sorted.{begun_after, is_of_message, lines_after, message_lines}
 use Rattle.krb_record.specs.Text.{line_feed}
 use Rattle.krb_c.specs.declared.turning.Options.{Options}
 
@@ -57,36 +57,16 @@ told_end run.RefusedAtOnce said = run.RefusedAtOnce
 told_end end [] = run.Clean
 told_end end (octet ∷ said) = run.Refused
 
--- ---- one text, of lines of messages and of lines that are said
-pub record Texts : Type 0 where
-  pub lines : List ℕ
-  pub said : List ℕ
+-- ---- one text, of lines of messages and of others, which are said
+abbrev pub said_of : List ℕ → List ℕ
+said_of line = if is_of_message line then [] else line
 
--- an octet of a line of a message, or of one that is said
-abbrev pub of_lines : (of_message : Bool) → ℕ → List ℕ
-of_lines true octet = octet ∷ []
-of_lines false octet = []
-
-abbrev pub of_said : (of_message : Bool) → ℕ → List ℕ
-of_said true octet = []
-of_said false octet = octet ∷ []
-
-abbrev pub octet_and : (of_message : Bool) → ℕ → Texts → Texts
-octet_and of_message octet others = record { lines = of_lines of_message octet ++ others.lines; said = of_said of_message octet ++ others.said }
-
--- a line is of a message if it begins with a brace (7B); it is known of one that has begun, which a line feed ends
-abbrev pub is_of_message : Option Bool → ℕ → Bool
-is_of_message begun octet = unwrap_or begun (octet == 0x7B)
-
-abbrev pub begun_after : (of_message : Bool) → ℕ → Option Bool
-begun_after of_message octet = if octet == 10 then None else Some of_message
-
-abbrev pub sorted : (begun : Option Bool) → List ℕ → Texts
-sorted begun [] = record { lines = []; said = [] }
-sorted begun (octet ∷ text) = octet_and (is_of_message begun octet) octet (sorted (begun_after (is_of_message begun octet) octet) text)
+-- each other line, and of one that has not ended what has come
+abbrev pub said_lines : List ℕ → List ℕ
+said_lines text = flat_map said_of (lines_after [] text) ++ said_of (begun_after [] text)
 
 abbrev pub IsSorted : (text : List ℕ) → RunEnd → (lines said : List ℕ) → RunEnd → Type 0
-IsSorted text ended lines said end = (lines ≡ (sorted None text).lines) × (said ≡ (sorted None text).said) × (end ≡ told_end ended said)
+IsSorted text ended lines said end = (lines ≡ message_lines text) × (said ≡ said_lines text) × (end ≡ told_end ended said)
 
 -- the lines of a stream that goes on
 pub record IsStreamDecodedOn (profile : Profile) (limit : ℕ) (octets lines said : List ℕ) (end : RunEnd) : Type 0 where

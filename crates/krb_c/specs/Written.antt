@@ -4,7 +4,7 @@ use Rattle.krb_run.specs.declared.run.RunEnd.{RunEnd}
 use Rattle.krb_run.specs.declared.run.RunEnd.TheVariants as run
 
 -- The memory of the caller has as much of the text as there is room for, and the size is that of all of it.
-pub record IsCopied (text before after : List ℕ) (size : ℕ) : Type 0 where
+pub record IsCopied {T : Type 0} (text before after : List T) (size : ℕ) : Type 0 where
   pub all : size ≡ length text
   pub copied : after ≡ take (length before) text ++ drop (length text) before
 

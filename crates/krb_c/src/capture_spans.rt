@@ -1,13 +1,23 @@
 //! Where the packets lie of a capture, and which of them its records are of.
 
+ghost use Rattle.std.specs.Prelude.{◌≡◌, length, OnOk};
+ghost use Rattle.krb_capture.specs.Labels.{of_records};
+ghost use Rattle.krb_capture_run.specs.Captures.{capture_listing};
+ghost use Rattle.krb_record.specs.Labels.{no_label};
+ghost use Rattle.krb_record.specs.declared.form.Form.TheVariants.{NamedLines};
+ghost use Rattle.krb_c.specs.Spanned.{is_clean};
+ghost use Rattle.krb_c.specs.inner.Within.{AddsWithin};
+
 use crate::spans::Spans;
 use krb_capture_run::run_capture;
+use krb_file::FileFault;
 use krb_judge::Profile;
-use krb_packet::Packets;
+use krb_packet::{Packet, Packets};
 use krb_record::{Form, Label};
 use krb_run::{RunEnd, RunFault};
 use krb_tool::Limit;
 use std::alloc::{AllocError, Global};
+use std::io::ErrorKind;
 use std::str;
 
 /// The number of octets of the header of a pcap, and of that of each of its packets.
@@ -77,8 +87,18 @@ impl Blocks<'_> {
     }
 }
 
+/// Returns the next packet, or nothing after the last one that can be read.
+fn next_of(alloc: Global, packets: &mut Packets<&[u8]>) -> Result<Option<Packet>, RunFault> {
+    match packets.next_packet(alloc) {
+        Ok(packet) => Ok(packet),
+        Err(FileFault::Refused(_)) => Ok(None),
+        Err(FileFault::Read) => Err(RunFault::Read(ErrorKind::Other.into())),
+        Err(FileFault::Memory) => Err(RunFault::Memory),
+    }
+}
+
 /// Returns where the packets of a capture lie.
-fn packets_of(alloc: Global, file: &[u8]) -> Result<Vec<(usize, usize)>, AllocError> {
+fn packets_of(alloc: Global, file: &[u8]) -> Result<Vec<(usize, usize)>, RunFault> {
     let mut packets = Packets::new(file);
     let mut found = Vec::new(alloc);
     let is_pcapng = file.starts_with(&SECTION);
@@ -89,7 +109,7 @@ fn packets_of(alloc: Global, file: &[u8]) -> Result<Vec<(usize, usize)>, AllocEr
     };
     let mut next = FILE_HEADER;
     for _ in 0..u64::MAX {
-        let Ok(Some(packet)) = packets.next_packet(alloc) else {
+        let Some(packet) = next_of(alloc, &mut packets)? else {
             return Ok(found);
         };
         let begin = if is_pcapng {
@@ -114,24 +134,48 @@ fn field(line: &str, name: &str) -> Option<u64> {
     None
 }
 
-/// Adds the packet of a record, or of the last one from where the file is refused, or where it ends.
-fn put_line(
+/// Returns where the packet of a record lies, or the last part of the file from where it is refused, or
+/// where it ends.
+fn place_of(packets: &[(usize, usize)], line: &str, all: usize) -> (usize, usize) {
+    if line.starts_with("packet=") {
+        let packet = field(line, "packet=").unwrap_or(0);
+        let index = packet.saturating_sub(1) as usize;
+        return packets.get(index).copied().unwrap_or((all, all));
+    }
+    (field(line, "at=").map_or(all, |at| at as usize), all)
+}
+
+/// Adds the octets from a place up to an end, of those that there are.
+fn put_within(spans: &mut Spans, begin: usize, end: usize, all: usize) -> Result<(), AllocError>
+    ensures { OnOk result (AddsWithin all spans.old spans.new) }
+{
+    spans.put(begin.min(all), end.min(all))
+}
+
+/// Adds for each line of a listing the data of its packet.
+fn put_lines(
     spans: &mut Spans,
     packets: &[(usize, usize)],
-    line: &str,
+    listing: &[u8],
     all: usize,
-) -> Result<(), AllocError> {
-    if let Some(packet) = line
-        .strip_prefix("packet=")
-        .and_then(|_| field(line, "packet="))
-    {
-        let index = packet.saturating_sub(1) as usize;
-        return match packets.get(index) {
-            Some((begin, end)) => spans.put(*begin, *end),
-            None => spans.put(all, all),
-        };
+) -> Result<(), AllocError>
+    ensures { OnOk result (AddsWithin all spans.old spans.new) }
+{
+    let Ok(listing) = str::from_utf8(listing) else {
+        return Ok(());
+    };
+    'lines: for line in listing.lines() {
+        let (begin, end) = place_of(packets, line, all);
+        put_within(spans, begin, end, all)?;
     }
-    spans.put(field(line, "at=").map_or(all, |at| at as usize), all)
+    Ok(())
+}
+
+/// Returns whether a run is clean.
+fn is_clean(end: RunEnd) -> bool
+    ensures { result ≡ is_clean end }
+{
+    end == RunEnd::Clean
 }
 
 /// Adds for each record of a capture the data of its packet in the file.
@@ -142,17 +186,16 @@ pub(crate) fn put_capture(
     limit: Limit,
     port: u16,
     file: &[u8],
-) -> Result<(), RunFault> {
+) -> Result<(), RunFault>
+    ensures within { OnOk result (AddsWithin (length file.now) spans.old spans.new) }
+    ensures clean { OnOk result (spans.new.is_clean ≡ is_clean (capture_listing (record { label = of_records (no_label NamedLines); profile = profile; limit = limit; port = port }) file.now).end) }
+{
     let mut reader = file;
     let mut text = Vec::new(alloc);
     let label = Label::none(Form::NamedLines);
     let end = run_capture(alloc, &label, profile, &mut reader, &mut text, limit, port)?;
     let packets = packets_of(alloc, file)?;
-    spans.is_clean = end == RunEnd::Clean;
-    if let Ok(lines) = str::from_utf8(text.as_slice()) {
-        for line in lines.lines() {
-            put_line(spans, packets.as_slice(), line, file.len())?;
-        }
-    }
+    put_lines(spans, packets.as_slice(), text.as_slice(), file.len())?;
+    spans.is_clean = is_clean(end);
     Ok(())
 }

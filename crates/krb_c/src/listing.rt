@@ -3,13 +3,14 @@
 ghost use Rattle.std.specs.Prelude.{IfOk};
 ghost use Rattle.krb_der.specs.declared.profile.Profile.TheVariants.{Lenient};
 ghost use Rattle.krb_c.specs.Numbers.{form_of, goes_on, limit_of, now_of, port_of, profile_of};
-ghost use Rattle.krb_c.specs.Listed.{IsCaptureListing, IsCcacheListing, IsKeytabListing, IsMessageListing, IsStreamListing};
+ghost use Rattle.krb_c.specs.Listed.{IsCaptureListing, IsCcacheListing, IsItemsListing, IsKeytabListing, IsMessageListing, IsStreamListing};
 ghost use Rattle.krb_c.specs.Written.{IsListed};
 
 use crate::numbers::{form_of, goes_on, limit_of, now_of, port_of, profile_of};
 use crate::writing::{Listing, answer};
 use krb_capture_run::run_capture;
 use krb_file_run::{run_ccache_in, run_keytab_in};
+use krb_items_run::list_items;
 use krb_record::Label;
 use krb_run::RunFault;
 use krb_tool::{Form, Limit, Profile, list_octets, run_stream_in};
@@ -25,6 +26,21 @@ pub(crate) fn message_listing(
     ensures { IfOk result (λ made. IsMessageListing form profile octets.now made.text.items made.end) }
 {
     let listed = list_octets(alloc, form, profile, octets)?;
+    let text = listed.text.into_string().into_bytes();
+    let end = listed.end;
+    Ok(Listing { text, end })
+}
+
+/// Returns the items of a message of a profile, or those up to its refusal.
+fn items_listing(
+    alloc: Global,
+    form: Form,
+    profile: Profile,
+    octets: &[u8],
+) -> Result<Listing, RunFault>
+    ensures { IfOk result (λ made. IsItemsListing form profile octets.now made.text.items made.end) }
+{
+    let listed = list_items(alloc, form, profile, octets)?;
     let text = listed.text.into_string().into_bytes();
     let end = listed.end;
     Ok(Listing { text, end })
@@ -119,6 +135,23 @@ pub extern "C" fn krbls_message(
     ensures { IsListed (IsMessageListing (form_of form) (profile_of profile) octets.now) text.old text.new size.old size.new result }
 {
     let listing = message_listing(alloc, form_of(form), profile_of(profile), octets);
+    answer(listing, text, size)
+}
+
+/// Lists where each item of octets is that are one message of a profile: what `krbls items` prints of the
+/// same octets in hexadecimal.
+#[unsafe(no_mangle)]
+pub extern "C" fn krbls_items(
+    alloc: Global,
+    form: u32,
+    profile: u32,
+    octets: &[u8],
+    text: &mut [u8],
+    size: &mut usize,
+) -> u32
+    ensures { IsListed (IsItemsListing (form_of form) (profile_of profile) octets.now) text.old text.new size.old size.new result }
+{
+    let listing = items_listing(alloc, form_of(form), profile_of(profile), octets);
     answer(listing, text, size)
 }
 

@@ -1,15 +1,19 @@
 //! Where the octets lie of what is listed.
 
-ghost use Rattle.std.specs.Prelude.{◌≡◌, ◌+◌, ◌<◌, ◌^◌, [], true, length, OnOk};
+ghost use Rattle.std.specs.Prelude.{◌≡◌, ◌+◌, ◌<◌, ◌^◌, [], true, if◌then◌else◌, length, IfOk, MatchResult, OnOk};
+ghost use Rattle.krb_input.specs.Sources.{command_for};
 ghost use Rattle.krb_judge.specs.Parses.{refusal_of, ticket_refusal};
 ghost use Rattle.krb_c.specs.Spans.{message_spans, refused_up_to, unless_refused, up_to};
-ghost use Rattle.krb_c.specs.inner.Adding.{Adds};
+ghost use Rattle.krb_c.specs.Numbers.{goes_on, limit_of, port_of, profile_of};
+ghost use Rattle.krb_c.specs.Spanned.{AreGiven, AreSpans};
+ghost use Rattle.krb_c.specs.Written.{IsCopied, WroteNothing};
+ghost use Rattle.krb_c.specs.inner.Adding.{Adds, spanned};
 
 use crate::capture_spans::put_capture;
 use crate::file_spans::{put_ccache, put_keytab};
 use crate::frame_spans::put_stream;
 use crate::numbers::{goes_on, limit_of, port_of, profile_of};
-use crate::writing::MEMORY;
+use crate::writing::{MEMORY, copy_out};
 use krb_input::{SourceKind, kind_of};
 use krb_judge::{Profile, read_message_in, read_ticket_in};
 use krb_run::RunFault;
@@ -105,8 +109,37 @@ fn put_message(spans: &mut Spans, profile: Profile, octets: &[u8]) -> Result<(),
     }
 }
 
-/// Returns where the octets lie of the records of octets, by what their first octets say that they
-/// are.
+/// Adds where the octets lie of the records of octets, by what their first octets say that they are,
+/// to none.
+fn put_all(
+    alloc: Global,
+    spans: &mut Spans,
+    profile: Profile,
+    limit: Limit,
+    goes_on: bool,
+    port: u16,
+    octets: &[u8],
+) -> Result<(), RunFault>
+    requires none { spans.old.numbers.items ≡ [] }
+    requires clean { spans.old.is_clean ≡ true }
+    ensures { OnOk result (AreSpans profile limit goes_on port octets.now (spanned spans.new)) }
+{
+    match kind_of(octets) {
+        SourceKind::Stream => {
+            put_stream(spans, profile, limit, goes_on, octets)?;
+            Ok(())
+        }
+        SourceKind::Message => {
+            put_message(spans, profile, octets)?;
+            Ok(())
+        }
+        SourceKind::Keytab => put_keytab(alloc, spans, octets),
+        SourceKind::Ccache => put_ccache(alloc, spans, octets),
+        SourceKind::Capture => put_capture(alloc, spans, profile, limit, port, octets),
+    }
+}
+
+/// Returns where the octets lie of the records of octets.
 fn spans_of(
     alloc: Global,
     profile: Profile,
@@ -114,16 +147,25 @@ fn spans_of(
     goes_on: bool,
     port: u16,
     octets: &[u8],
-) -> Result<Spans, RunFault> {
+) -> Result<Spans, RunFault>
+    ensures { IfOk result (λ found. AreSpans profile limit goes_on port octets.now (spanned found)) }
+{
     let mut spans = Spans::new(alloc);
-    match kind_of(octets) {
-        SourceKind::Stream => put_stream(&mut spans, profile, limit, goes_on, octets)?,
-        SourceKind::Message => put_message(&mut spans, profile, octets)?,
-        SourceKind::Keytab => put_keytab(alloc, &mut spans, octets)?,
-        SourceKind::Ccache => put_ccache(alloc, &mut spans, octets)?,
-        SourceKind::Capture => put_capture(alloc, &mut spans, profile, limit, port, octets)?,
-    }
+    put_all(alloc, &mut spans, profile, limit, goes_on, port, octets)?;
     Ok(spans)
+}
+
+/// Copies the numbers of spans out, and returns whether something is refused.
+fn answer_spans(found: Result<Spans, RunFault>, spans: &mut [u64], size: &mut usize) -> u32
+    ensures { MatchResult found (λ found. IsCopied found.numbers.items spans.old spans.new size.new × (result ≡ (if found.is_clean then 0 else 1))) (λ _. WroteNothing spans.old spans.new size.old size.new result) }
+{
+    match found {
+        Ok(found) => {
+            copy_out(found.numbers.as_slice(), spans, size);
+            u32::from(!found.is_clean)
+        }
+        Err(_) => MEMORY,
+    }
 }
 
 /// Says where the octets lie of each record that octets are listed as, by what their first octets say
@@ -138,7 +180,9 @@ pub extern "C" fn krbls_spans(
     octets: &[u8],
     spans: &mut [u64],
     size: &mut usize,
-) -> u32 {
+) -> u32
+    ensures { AreGiven (AreSpans (profile_of profile) (limit_of limit) (goes_on going_on) (port_of port) octets.now) spans.old spans.new size.old size.new result }
+{
     let found = spans_of(
         alloc,
         profile_of(profile),
@@ -147,14 +191,5 @@ pub extern "C" fn krbls_spans(
         port_of(port),
         octets,
     );
-    match found {
-        Ok(found) => {
-            let made = found.numbers.as_slice();
-            let count = made.len().min(spans.len());
-            spans[..count].copy_from_slice(&made[..count]);
-            *size = made.len();
-            u32::from(!found.is_clean)
-        }
-        Err(_) => MEMORY,
-    }
+    answer_spans(found, spans, size)
 }

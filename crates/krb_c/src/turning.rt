@@ -3,8 +3,9 @@
 ghost use Rattle.std.specs.Prelude.{◌≡◌, ◌++◌, IfOk, OnOk};
 ghost use Rattle.krb_input.specs.Sources.{command_for};
 ghost use Rattle.krb_c.specs.Numbers.{goes_on, limit_of, now_of, port_of, profile_of};
-ghost use Rattle.krb_c.specs.Turned.{IsCaptureDecoded, IsDecoded, IsDecodedAs, IsEncoded, IsKeytabTold, IsSorted, IsStreamDecoded, IsStreamDecodedOn, begun_after, framing_of, is_of_message, of_lines, of_said, told_end};
+ghost use Rattle.krb_c.specs.Turned.{IsCaptureDecoded, IsDecoded, IsDecodedAs, IsEncoded, IsKeytabTold, IsSorted, IsStreamDecoded, IsStreamDecodedOn, framing_of, told_end};
 ghost use Rattle.krb_c.specs.Written.{IsToldOf};
+ghost use Rattle.krb_c.specs.inner.Sorting.{begun_after, is_of_message, of_lines, of_said};
 ghost use Rattle.krb_decode.specs.Caches.{decoded_cache};
 ghost use Rattle.krb_decode.specs.Given.{decoded_given};
 

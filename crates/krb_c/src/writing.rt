@@ -23,8 +23,8 @@ pub(crate) struct Told {
     pub end: RunEnd,
 }
 
-/// Copies as much of a text as there is room for, and writes how much it is in all.
-pub(crate) fn copy_out(made: &[u8], text: &mut [u8], size: &mut usize)
+/// Copies as much of a text, or of numbers, as there is room for, and writes how much it is in all.
+pub(crate) fn copy_out<T: Copy>(made: &[T], text: &mut [T], size: &mut usize)
     ensures { IsCopied made.now text.old text.new size.new }
 {
     let count = made.len().min(text.len());

@@ -1,6 +1,5 @@
 -- In rows of messages of a capture a cell is what the object says.
-use Rattle.std.proofs.Common.{◌≡◌, ℕ, pos, ◌^◌, ◌<◌, true, Option, Some, None, IfSome, List, [], ◌∷◌, ◌++◌, refl, codes}
-use Rattle.std.specs.List.{AllByRecursion, Contains}
+use Rattle.std.proofs.Common.{pos, ◌^◌, ◌<◌, Option, Some, None, IfSome, ◌∷◌, ◌++◌, refl, codes}
 use Rattle.krb_der.specs.declared.profile.Profile.TheVariants as profiles
 use Rattle.krb_msg.specs.Views.{IsInProfile}
 use Rattle.krb_msg.specs.declared.message.Message.{Message}
@@ -9,7 +8,7 @@ use Rattle.krb_source.specs.declared.timestamp.Timestamp.{Timestamp}
 use Rattle.krb_record.specs.Captures.{answer_fields, captured, last_fields, origin_fields, time_field, told_fields, told_in}
 use Rattle.krb_record.specs.Laws.{OriginIsInRange}
 use Rattle.krb_record.specs.Time.{microseconds, timestamp_text}
-use Rattle.krb_record.specs.Values.{Field, Flow, Number, Span, Word, if_there, the, with_last, with_origin}
+use Rattle.krb_record.specs.Values.{Flow, Number, Span, Word, if_there, the, with_last, with_origin}
 use Rattle.krb_record.specs.declared.capture_origin.CaptureOrigin.{CaptureOrigin}
 use Rattle.krb_record.specs.declared.form.Form.TheVariants as forms
 use Rattle.krb_record.specs.declared.told.Answer.{Answer}
@@ -29,7 +28,7 @@ time-worded : (time : Option Timestamp) → IfSome time (λ time. time.seconds <
 time-worded None h = tt
 time-worded (Some time) h = timestamp time.seconds time.nanoseconds h
 
-answer-worded : (answer : Answer) → AreWorded (answer_fields answer)
+pub answer-worded : (answer : Answer) → AreWorded (answer_fields answer)
 answer-worded answer = (optional (λ packet. Number (pos packet)) (λ n. tt) answer.of, (optional (λ span. Span span.microseconds) (λ span. tt) answer.after, (optional (λ span. Span span.microseconds) (λ span. tt) answer.waited, tt)))
 
 told-worded : (told : Told) → AreWorded (told_fields told)
@@ -61,11 +60,15 @@ names-differ origin (tells.Either again answer) (message.AsReq m) = refl
 names-differ origin (tells.Either again answer) other = refl
 
 -- ---- what they say
+pub origin-speaks : (origin : CaptureOrigin) → OriginIsInRange origin → AreSpeaking (origin_fields forms.Json origin)
+origin-speaks origin range = speaking (origin_fields forms.Json origin) (shown-origin forms.Json origin range) (origin-worded origin range)
+
+pub last-speaks : (origin : CaptureOrigin) → AreSpeaking (last_fields origin)
+last-speaks origin = speaking (last_fields origin) (shown-last origin) (last-worded origin)
+
 all-speak : (origin : CaptureOrigin) (m : Message) → OriginIsInRange origin → IsInProfile profiles.Lenient m → AreSpeaking (origin_fields forms.Json origin ++ (message_record m).fields ++ last_fields origin)
 all-speak origin m range good =
-    let from = speaking (origin_fields forms.Json origin) (shown-origin forms.Json origin range) (origin-worded origin range) in
-    let last = speaking (last_fields origin) (shown-last origin) (last-worded origin) in
-    all-speaking (origin_fields forms.Json origin ++ (message_record m).fields) (last_fields origin) (all-speaking (origin_fields forms.Json origin) (message_record m).fields from (its-fields m good)) last
+    all-speaking (origin_fields forms.Json origin ++ (message_record m).fields) (last_fields origin) (all-speaking (origin_fields forms.Json origin) (message_record m).fields (origin-speaks origin range) (its-fields m good)) (last-speaks origin)
 
 pub captured-say : CapturedMessagesSayObjects
 captured-say origin m range good path field i =

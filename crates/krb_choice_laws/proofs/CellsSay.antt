@@ -69,7 +69,7 @@ names-said : (registry : Registry) (ns : List ℤ) → items_said (items_of (map
 names-said registry ns = items-map (name_json registry) (name_or_dash registry) (λ n. Unit {0}) (λ n h. found-item (name_of registry n) (its-item registry n (name_of registry n) refl)) ns (every ns)
 
 -- a list none of whose items is `-`
-abbrev IsOther : List ℕ → Type 0
+abbrev pub IsOther : List ℕ → Type 0
 IsOther text = codes "-" ≡ text → ⊥
 
 dash-no : (text : List ℕ) → IsOther text → bytes_eq (codes "-") text ≡ false
@@ -79,7 +79,7 @@ dash-no text h = by (bytes_eq (codes "-") text) refl
     by true e = absurd (h ((bytes_eq-Decides (codes "-") text).0 e))
     by false e = refl
 
-list-is : (texts : List (List ℕ)) → AllByRecursion IsOther texts → joined (codes "[]") (codes ",") (λ text. text) texts ≡ list_cell texts
+pub list-is : (texts : List (List ℕ)) → AllByRecursion IsOther texts → joined (codes "[]") (codes ",") (λ text. text) texts ≡ list_cell texts
 list-is [] h = refl
 list-is (text ∷ []) h = append-nil text ∙ sym (ap (λ b. cond b (codes "[-]") text) (dash-no text h.0))
 list-is (first ∷ second ∷ others) h = refl
@@ -98,7 +98,7 @@ item-other octets h e = item-not-dash octets h (sym e)
 components-said : (components : List (List ℕ)) → AllAreOctets components → joined (codes "[]") (codes ",") item_cell components ≡ list_cell (items_said (items_of (map octets_of components)))
 components-said components h = joined-said octets_of item_cell AreOctets (λ octets k. item-strings octets k) item-other components h
 
-word-other : (name : List ℕ) → Item name → IsOther name
+pub word-other : (name : List ℕ) → Item name → IsOther name
 word-other name h e = let w = a-word name h.word in let f : true ≡ false = ap is_mistaken e ∙ w.unmistaken in cc
 
 flags-said : (registry : Registry) (octets : List ℕ) → joined (codes "[]") (codes ",") (λ name. name) (set_names registry octets) ≡ list_cell (items_said (items_of (map string (set_names registry octets))))

@@ -92,10 +92,10 @@ strings (suc bound) (o ∷ octets) a = (contents (o ∷ octets) a, strings bound
 from-realm : (octets : List ℕ) → AreOctets octets → AreOctets (split_item (split_item (split_item octets).contents).contents).rest
 from-realm octets a = after _ (contents _ (contents octets a))
 
-realm : (octets : List ℕ) → AreOctets octets → AreOctets (ticket_read octets).realm
+pub realm : (octets : List ℕ) → AreOctets octets → AreOctets (ticket_read octets).realm
 realm octets a = contents _ (contents _ (from-realm octets a))
 
-server : (octets : List ℕ) → AreOctets octets → AllAreOctets (ticket_read octets).sname.name
+pub server : (octets : List ℕ) → AreOctets octets → AllAreOctets (ticket_read octets).sname.name
 server octets a =
     let name = contents _ (contents _ (after _ (from-realm octets a))) in
     strings _ _ (contents _ (contents _ (after _ name)))

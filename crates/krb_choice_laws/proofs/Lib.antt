@@ -31,3 +31,7 @@ pub mod MessagesListed
 pub mod AllKinds
 pub mod TimeWords
 pub mod CapturedSay
+pub mod RecordsSay
+pub mod FilesSay
+pub mod IcmpWords
+pub mod RowsObjects

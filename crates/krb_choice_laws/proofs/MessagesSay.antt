@@ -72,7 +72,7 @@ fields-worded (message.KrbCred m) good = (tt, (tt, tt))
 fields-worded (message.KrbError m) good = error m good.fits
 fields-worded other good = (tt, tt)
 
-origin-worded : (line : Option ℕ) (layers : List Layer) → AreWorded (message_origin line layers)
+pub origin-worded : (line : Option ℕ) (layers : List Layer) → AreWorded (message_origin line layers)
 origin-worded None [] = tt
 origin-worded (Some line) (first ∷ others) = (tt, (tt, tt))
 origin-worded other another = (tt, tt)

@@ -8,15 +8,19 @@ use Rattle.std.proofs.lemmas.Slice.Eq.{bytes_eq-Decides}
 use Rattle.std.specs.List.{AllByRecursion, Contains, flat_map, list_all}
 use Rattle.std.specs.Prelude.{bytes_eq}
 use Rattle.json.specs.Json.{Json, null, string}
-use Rattle.krb_record.specs.Forms.{cell}
+use Rattle.json.specs.Value.{items_of}
+use Rattle.std.specs.Option.{option_map}
+use Rattle.krb_record.specs.Forms.{cell, list_cell}
 use Rattle.krb_record.specs.Values.{Called, ErrorCode, Field, Named, NoReason, Numbers, Part, Printed, Reason, Status, Value}
 use Rattle.krb_record.specs.declared.path.Path.{Path}
 use Rattle.krb_record.specs.declared.path.Path.TheVariants as paths
-use Rattle.krb_choice.specs.Choices.{ShownField, cell_of, shown_field}
+use Rattle.krb_choice.specs.Choices.{ShownField, ShownPart, cell_of, inside_cell, shown_field, shown_part}
 use Rattle.krb_laws.specs.Json.{field_members, inside_members, json_of, json_of_value, list_of, members_of, names_of_value, part_json}
 use Rattle.krb_laws.specs.JsonLaws.{are_different, inside_name, member_names}
-use Rattle.krb_choice_laws.specs.Cells.{CellsSayObjects, CellsSayParts, NamesDiffer, PartNamesDiffer, names_beside, member_at, member_in, member_of, member_within, names_of, object_with, said_of, unless_null}
-use Rattle.krb_choice_laws.proofs.CellsSay.{cells-say}
+use Rattle.krb_choice_laws.specs.Cells.{InsideSaysObjects, IsKind, KindsSayObjects, kinds_in, kinds_said, CellsSayObjects, CellsSayParts, NamesDiffer, PartNamesDiffer, names_beside, member_at, member_in, member_of, member_within, names_of, object_with, said_of, unless_null}
+use Rattle.krb_choice_laws.proofs.CellsSay.{IsOther, cells-say, list-is, word-other}
+use Rattle.krb_choice_laws.proofs.Lists.{joined-map}
+use Rattle.krb_choice_laws.proofs.Texts.{word-items, words}
 use Rattle.krb_choice_laws.proofs.MembersAt.{name_beside, names_beside as numbers_beside}
 
 -- ---- lists
@@ -235,7 +239,7 @@ parts-say p fits path f contains h =
     part-cell p fits f found path ∙ cells-say path f h ∙ ap (said_of f.value path) (sym (at-same path f.name (part_json p) (object_with f) (part-member p fits f found)))
 
 -- ---- a record
-module _ (r : Printed) (fits : NamesDiffer r) (f : Field) (found : IsIn f (r.origin ++ r.fields ++ r.last)) where
+module _ (r : Printed) (fits : NamesDiffer r) where
   abbrev own : List Field
   own = r.origin ++ r.fields
 
@@ -266,28 +270,29 @@ module _ (r : Printed) (fits : NamesDiffer r) (f : Field) (found : IsIn f (r.ori
   differ : are_different (all_names entries) ≡ true
   differ = ap are_different names-are ∙ fits
 
-  its-entry : IsIn (of_field f) entries
-  its-entry = inr (elim (in-either own r.last f found) [
-    | inl i ↦ in-left (map of_field own) later (of_field f) (in-map of_field own f i)
-    | inr i ↦ in-right (map of_field own) later (of_field f) (inr (in-map of_field r.last f i))
+  own-differ : are_different (field_names own ++ names_after) ≡ true
+  own-differ = rest-differ (codes "kind" ∷ []) (field_names own ++ names_after) fits
+
+module _ (r : Printed) (fits : NamesDiffer r) (f : Field) (found : IsIn f (r.origin ++ r.fields ++ r.last)) where
+  its-entry : IsIn (of_field f) (entries r fits)
+  its-entry = inr (elim (in-either (own r fits) r.last f found) [
+    | inl i ↦ in-left (map of_field (own r fits)) (later r fits) (of_field f) (in-map of_field (own r fits) f i)
+    | inr i ↦ in-right (map of_field (own r fits)) (later r fits) (of_field f) (inr (in-map of_field r.last f i))
   ])
 
   its-member : (n : List ℕ) → IsIn n (member_names f.name) → member_of n (json_of r) ≡ member_of n (object_with f)
   unfolding json_of
-  its-member n i = ap (λ ms. member_in n (members_of ms)) (sym members-are) ∙ own-members entries are-entries differ (of_field f) its-entry n i
-
-  own-differ : are_different (field_names own ++ names_after) ≡ true
-  own-differ = rest-differ (codes "kind" ∷ []) (field_names own ++ names_after) fits
+  its-member n i = ap (λ ms. member_in n (members_of ms)) (sym (members-are r fits)) ∙ own-members (entries r fits) (are-entries r fits) (differ r fits) (of_field f) its-entry n i
 
   its-cell : (path : Path) → cell_of f.name path (map shown_field (r.origin ++ r.fields ++ r.last)) ≡ cell path f.value
   its-cell path =
-      ap (cell_of f.name path) (map-append shown_field own r.last)
-      ∙ elim (in-either own r.last f found) as (λ _. cell_of f.name path (map shown_field own ++ map shown_field r.last) ≡ cell path f.value) [
-        | inl i ↦ first-cell path own (map shown_field r.last) names_after f i own-differ
+      ap (cell_of f.name path) (map-append shown_field (own r fits) r.last)
+      ∙ elim (in-either (own r fits) r.last f found) as (λ _. cell_of f.name path (map shown_field (own r fits) ++ map shown_field r.last) ≡ cell path f.value) [
+        | inl i ↦ first-cell path (own r fits) (map shown_field r.last) (names_after r fits) f i (own-differ r fits)
         | inr i ↦
             let its = in-right (inside_name r.inside) (field_names r.last) f.name (named r.last f i) in
-            let last_differ = rest-differ (inside_name r.inside) (field_names r.last) (rest-differ (field_names own) names_after own-differ) in
-            past-cells path f.name own (map shown_field r.last) (after-differs (field_names own) names_after f.name its own-differ)
+            let last_differ = rest-differ (inside_name r.inside) (field_names r.last) (rest-differ (field_names (own r fits)) (names_after r fits) (own-differ r fits)) in
+            past-cells path f.name (own r fits) (map shown_field r.last) (after-differs (field_names (own r fits)) (names_after r fits) f.name its (own-differ r fits))
             ∙ ap (cell_of f.name path) (sym (append-nil (map shown_field r.last)))
             ∙ first-cell path r.last [] [] f i (ap are_different (append-nil (field_names r.last)) ∙ last_differ)
       ]
@@ -296,3 +301,30 @@ pub objects-say : CellsSayObjects
 objects-say r fits path f contains h =
     let found = is-in (r.origin ++ r.fields ++ r.last) f contains in
     its-cell r fits f found path ∙ cells-say path f h ∙ ap (said_of f.value path) (sym (at-same path f.name (json_of r) (object_with f) (its-member r fits f found)))
+
+-- ---- the kind, and the kinds of what is inside
+pub kinds-say : KindsSayObjects
+unfolding json_of
+kinds-say r h = h.alone ∙ words r.kind h.word
+
+inside-member : (r : Printed) (parts : List Part) → NamesDiffer r → r.inside ≡ Some parts → member_of (codes "inside") (json_of r) ≡ list_of part_json parts
+unfolding json_of
+inside-member r parts d e =
+    ap (λ ms. member_in (codes "inside") (members_of ms)) (sym (members-are r d))
+    ∙ own-members (entries r d) (are-entries r d) (differ r d) (of_inside r.inside) (inr (in-right (map of_field (own r d)) (later r d) (of_inside r.inside) (inl refl))) (codes "inside") (subst (λ inside. IsIn (codes "inside") (inside_name inside)) (sym e) (inl refl))
+    ∙ ap (λ inside. member_in (codes "inside") (members_of (inside_members inside))) e
+
+kinds-are : (parts : List Part) → AllByRecursion (λ (p : Part). IsKind p.kind) parts → map (λ (p : ShownPart). p.kind) (map shown_part parts) ≡ kinds_in (items_of (map part_json parts))
+kinds-are [] h = refl
+kinds-are (p ∷ others) h = ap₂ (λ kind kinds. kind ∷ kinds) (sym (word-items p.kind h.0.word h.0.comma)) (kinds-are others h.1)
+
+others-are : (parts : List Part) → AllByRecursion (λ (p : Part). IsKind p.kind) parts → AllByRecursion IsOther (map (λ (p : ShownPart). p.kind) (map shown_part parts))
+others-are [] h = tt
+others-are (p ∷ others) h = (word-other p.kind (record { word = h.0.word; comma = h.0.comma }), others-are others h.1)
+
+pub inside-says : InsideSaysObjects
+inside-says r parts d e h =
+    let kinds = map (λ (p : ShownPart). p.kind) (map shown_part parts) in
+    ap (λ inside. inside_cell (option_map (map shown_part) inside)) e
+    ∙ joined-map (λ (p : ShownPart). p.kind) (map shown_part parts) ∙ list-is kinds (others-are parts h) ∙ ap list_cell (kinds-are parts h)
+    ∙ sym (ap kinds_said (inside-member r parts d e))

@@ -1,12 +1,12 @@
 -- The texts of times are words: each octet is near a digit.
-use Rattle.std.proofs.Common.{◌≡◌, ◌∙◌, ℕ, zero, suc, pos, ◌+◌, ◌-◌, ◌*◌, ◌/◌, ◌%◌, ◌^◌, ◌<◌, ◌≤◌, ◌==◌, ◌&&◌, nat_le, not, inl, inr, Bool, true, false, List, [], ◌∷◌, ◌++◌, sym, refl, ap₂, subst, arith, codes}
+use Rattle.std.proofs.Common.{◌≡◌, ◌∙◌, ℕ, zero, suc, pos, ◌+◌, ◌-◌, ◌*◌, ◌/◌, ◌%◌, ◌^◌, ◌<◌, ◌≤◌, ◌&&◌, inl, inr, true, false, List, [], ◌∷◌, ◌++◌, sym, refl, ap₂, subst, arith, codes}
 use Rattle.std.proofs.lemmas.Bool.{and_from, cases_lt}
 use Rattle.std.proofs.lemmas.Bool.Decides.{nat_tests}
 use Rattle.std.proofs.lemmas.List.Folds.{list_all-append}
 use Rattle.std.specs.List.{list_all}
 use Rattle.jiff_core.specs.Calendar.{days_in_month, days_in_year}
 use Rattle.jiff_core.proofs.CalendarLemmas.{days_in_year_bounds}
-use Rattle.krb_record.specs.Time.{CivilDate, civil_date, clock_text, date_from, date_in_year, date_text, last_digits, second_text, timestamp_text, two_digits}
+use Rattle.krb_record.specs.Time.{CivilDate, civil_date, clock_text, date_from, date_in_year, date_text, last_digits, moment_text, second_text, timestamp_text, two_digits}
 use Rattle.krb_record.proofs.Dates.{from-here, from-next, from-zero, in_year-here, in_year-next}
 use Rattle.krb_choice_laws.specs.Cells.{IsWord}
 use Rattle.krb_choice_laws.proofs.Texts.{begun-word, is_mark, is_plain}
@@ -82,3 +82,10 @@ timestamp seconds nanoseconds h =
     let year = (civil_date (seconds / 86400)).year in
     let is = near (seconds / 86400) (omega arith) in
     begun-word (timestamp_text seconds nanoseconds) (plain-timestamp seconds nanoseconds h).is (tt, digit-mark (48 + year / 100 / 10) (omega arith) (omega (arith, is.0)))
+
+pub moment : (seconds : ℕ) → seconds < 2 ^ 32 → IsWord (moment_text seconds)
+unfolding date_text two_digits
+moment seconds h =
+    let year = (civil_date (seconds / 86400)).year in
+    let is = near (seconds / 86400) (omega arith) in
+    begun-word (moment_text seconds) (join (second seconds h) (sign (codes "Z") refl)).is (tt, digit-mark (48 + year / 100 / 10) (omega arith) (omega (arith, is.0)))

@@ -1,6 +1,6 @@
 -- What a cell says of an object: it is a function of the member of that at the path of its column.
 use Rattle.std.specs.Prelude.{ℕ, ◌≡◌, ◌<◌, ◌^◌, ◌==◌, ◌&&◌, nat_le, not, Bool, true, false, List, [], ◌∷◌, ◌++◌, IfSome, Some, bytes_eq, codes, if◌then◌else◌}
-use Rattle.std.specs.List.{Contains, flat_map, list_all}
+use Rattle.std.specs.List.{AllByRecursion, Contains, flat_map, list_all}
 use Rattle.std.specs.Net.Addr.{IsIpv4Addr, IsIpv6Addr, MatchIp}
 use Rattle.json.specs.Json.{Items, Json, Members, array, boolean, item, member, no_items, no_members, null, number, object, string}
 use Rattle.krb_der.specs.Octets.{AreOctets}
@@ -12,7 +12,7 @@ use Rattle.krb_record.specs.declared.path.Path.{Path}
 use Rattle.krb_record.specs.declared.path.Path.TheVariants as paths
 use Rattle.krb_laws.specs.Json.{field_members, json_of, object_of, part_json}
 use Rattle.krb_laws.specs.JsonLaws.{are_different, inside_name, member_names}
-use Rattle.krb_choice.specs.Choices.{Member, own_cell, part_cell, shown, shown_part}
+use Rattle.krb_choice.specs.Choices.{Inside, Kind, Member, kind_alone, own_cell, part_cell, shown, shown_part}
 
 -- ---- members of objects
 -- the first one of a name, or null
@@ -174,6 +174,28 @@ CellsSayObjects = (r : Printed) → NamesDiffer r → SaysObject r
 
 abbrev pub CellsSayParts : Type 0
 CellsSayParts = (part : Part) → PartNamesDiffer part → SaysPart part
+
+-- The kind of a record has no blank, and is a word without commas.
+pub record IsKind (kind : List ℕ) : Type 0 where
+  pub alone : kind_alone kind ≡ kind
+  pub word : IsWord kind
+  pub comma : list_all (λ c. not (c == 0x2C)) kind ≡ true
+
+abbrev pub KindsSayObjects : Type 0
+KindsSayObjects = (r : Printed) → IsKind r.kind → own_cell Kind (shown r) ≡ said [] (member_of (codes "kind") (json_of r))
+
+-- Of what is inside a cell has the kinds, as a list of strings.
+abbrev pub kinds_in : Items → List (List ℕ)
+kinds_in no_items = []
+kinds_in (item json others) = item_said (member_of (codes "kind") json) ∷ kinds_in others
+
+abbrev pub kinds_said : Json → List ℕ
+kinds_said (array items) = list_cell (kinds_in items)
+kinds_said json = codes "-"
+
+abbrev pub InsideSaysObjects : Type 0
+InsideSaysObjects =
+    (r : Printed) (parts : List Part) → NamesDiffer r → r.inside ≡ Some parts → AllByRecursion (λ (p : Part). IsKind p.kind) parts → own_cell Inside (shown r) ≡ kinds_said (member_of (codes "inside") (json_of r))
 
 -- ---- members of one type that are no objects; null is of each type
 pub data MemberType : Type 0 where

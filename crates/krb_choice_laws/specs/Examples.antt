@@ -1,14 +1,14 @@
 -- What cells say of members, computed.
 use Rattle.std.specs.Prelude.{◌≡◌, pos, true, false, [], ◌∷◌, None, Some, codes, refl}
 use Rattle.std.specs.Fmt.{digits}
-use Rattle.json.specs.Json.{array, boolean, item, no_items, null, number, string}
+use Rattle.json.specs.Json.{array, item, no_items, null, string}
 use Rattle.krb_registry.specs.Rows.{name_in, name_of, rows}
 use Rattle.krb_registry.specs.declared.registry.Registry.TheVariants as registries
-use Rattle.krb_record.specs.Forms.{four_octets, set_names, value_text}
+use Rattle.krb_record.specs.Forms.{value_text}
 use Rattle.krb_record.specs.Values.{Encrypted, FileName, Named, Numbers, the}
 use Rattle.krb_record.specs.declared.path.Path.TheVariants as paths
 use Rattle.krb_laws.specs.Json.{json_of_value, names_of_value}
-use Rattle.krb_choice_laws.specs.Cells.{is_word, line_part, member_at, object_with, said, said_of}
+use Rattle.krb_choice_laws.specs.Cells.{is_word, member_at, object_with, said, said_of}
 
 -- what is absent, a string that could be taken for it, and one of no octets
 absent : said [] null ≡ codes "-"

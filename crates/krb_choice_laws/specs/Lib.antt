@@ -5,3 +5,4 @@ pub mod Messages
 pub mod Records
 pub mod Cells
 pub mod Examples
+pub mod Says

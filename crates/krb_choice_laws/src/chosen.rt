@@ -1,10 +1,11 @@
 //! Laws of what is chosen. Each is the contract of a function that does nothing.
 
-ghost use Rattle.krb_choice_laws.specs.Cells.{CellsSayMembers, CellsSayObjects, CellsSayParts, MembersAreApart};
+ghost use Rattle.krb_choice_laws.specs.Cells.{CellsSayMembers, CellsSayObjects, CellsSayParts, InsideSaysObjects, KindsSayObjects, MembersAreApart};
 ghost use Rattle.krb_choice_laws.specs.Listing.{AllKindsAreListed, EndsAreTold, ListingsAreChosen, ListingsAreTold};
 ghost use Rattle.krb_choice_laws.specs.Messages.{CapturedCiphersAreNotChosen, CapturedMessagesArePlain, CapturedMessagesSayObjects, CiphersAreNotChosen, KeysAreNotChosen, ListedMessagesArePlain, ListedMessagesAreWhole, MessagesArePlain, MessagesSayObjects, MessagesSayParts, SessionKeysAreNotChosen};
 ghost use Rattle.krb_choice_laws.specs.Laws.{AllKindsAreKept, FileNamesAreApart, KeptKindsAreShown, NumberListsAreApart, NumbersAreApart, RowsArePrintable, StringListsAreApart, StringsAreApart, StringsAreThere, WrittenIsChosen};
 ghost use Rattle.krb_choice_laws.specs.Records.{CapturesArePlain, EndsArePlain, FilesArePlain, LabelsArePlain, TicketsArePlain};
+ghost use Rattle.krb_choice_laws.specs.Says.{CapturesSayObjects, EndsSayObjects, FilesSayObjects, RowsHaveObjects};
 
 /// What a choice writes of the text of a record, in the form in which it lists records, is what it has of
 /// the record itself: nothing if it does not keep it, and else its rows, or its line or its object.
@@ -35,10 +36,21 @@ pub fn cells_say_members()
     ensures field { CellsSayMembers }
     ensures object { CellsSayObjects }
     ensures part { CellsSayParts }
+    ensures kind { KindsSayObjects }
+    ensures kinds { InsideSaysObjects }
     ensures apart { MembersAreApart }
     ensures message { MessagesSayObjects }
     ensures capture { CapturedMessagesSayObjects }
     ensures inside { MessagesSayParts }
+{}
+
+/// So do the cells of other records: of refusals and ends, of what is found in captures, and of keytabs
+/// and caches. Rows are made of the records of which objects are made.
+pub fn records_say_objects()
+    ensures end { EndsSayObjects }
+    ensures capture { CapturesSayObjects }
+    ensures file { FilesSayObjects }
+    ensures same { RowsHaveObjects }
 {}
 
 /// A message that a choice keeps is of a kind that is shown in the form of the choice, and a choice by

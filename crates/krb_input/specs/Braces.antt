@@ -4,7 +4,7 @@ use Rattle.krb_der.specs.Octets.{when}
 use Rattle.krb_input.specs.Characters.{length_before}
 use Rattle.krb_input.specs.Readings.{Reading}
 use Rattle.krb_input.specs.Escapes.{has_escape, escapes}
-use Rattle.krb_input.specs.Tokens.{first_unfit, tokens}
+use Rattle.krb_input.specs.Tokens.{tokens}
 use Rattle.krb_input.specs.Comments.{blanked, unclosed}
 use Rattle.krb_input.specs.declared.text.Comments.TheVariants.{Outside}
 
@@ -13,14 +13,9 @@ abbrev pub after_first : ℕ → List ℕ → Option (List ℕ)
 after_first octet [] = None
 after_first octet (first ∷ text) = when (first == octet) (λ _. Some text) (λ _. after_first octet text)
 
--- tokens, of a text that has nothing else
-abbrev pub tokens_if_fit : Option ℕ → List ℕ → Reading
-tokens_if_fit None text = tokens true text
-tokens_if_fit (Some left) text = Err left
-
 -- a text of escapes, if it has one, or else of tokens
 abbrev pub escapes_or_tokens : List ℕ → Reading
-escapes_or_tokens text = when (has_escape text) (λ _. escapes text) (λ _. tokens_if_fit (first_unfit false text) text)
+escapes_or_tokens text = when (has_escape text) (λ _. escapes text) (λ _. tokens true text)
 
 -- a block, in which comments are blanks
 abbrev pub block : List ℕ → Reading

@@ -9,7 +9,7 @@ use crate::characters::contains;
 use crate::escapes::{has_escape, read_escapes};
 use crate::text::{Text, unclosed};
 use crate::text_fault::TextFault;
-use crate::tokens::{first_unfit, read_tokens};
+use crate::tokens::read_tokens;
 use std::alloc::Global;
 
 /// Returns what follows the first of an octet in a text, if it is there.
@@ -74,9 +74,6 @@ fn read_block(alloc: Global, text: &[u8]) -> Result<Vec<u8>, TextFault>
     let uncommented = Text::with_comments(text);
     if has_escape(uncommented) {
         return read_escapes(alloc, uncommented);
-    }
-    if let Some(left) = first_unfit(uncommented) {
-        return Err(TextFault::Left(left));
     }
     read_tokens(alloc, uncommented)
 }

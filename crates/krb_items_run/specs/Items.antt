@@ -14,7 +14,7 @@ use Rattle.krb_msg.specs.Grammar.{ticket}
 use Rattle.krb_msg.specs.Judgement.{judgement, term_judgement}
 use Rattle.krb_msg.specs.Profiles.{profile_term}
 use Rattle.krb_judge.specs.Parses.{refusal_of, ticket_refusal}
-use Rattle.krb_record.specs.Labels.{Label, line_of}
+use Rattle.krb_record.specs.Labels.{Label, line_of, no_label}
 use Rattle.krb_record.specs.Values.{Number, Printed, the, printed}
 use Rattle.krb_token.specs.Opened.{Found, Message, Ticket as IsTicket, Ntlm, Refused, Opened}
 use Rattle.krb_token.specs.Tokens.{opened}
@@ -27,7 +27,8 @@ use Rattle.krb_items.specs.declared.shape.NegToken.{NegToken}
 use Rattle.krb_items.specs.declared.shape.NegToken.TheVariants as negs
 use Rattle.krb_run.specs.Files.{FileListing}
 use Rattle.krb_run.specs.declared.run.RunEnd.TheVariants as run
-use Rattle.krb_tool.specs.Messages.{input_limit, message_listing}
+use Rattle.krb_record.specs.declared.form.Form.{Form}
+use Rattle.krb_tool.specs.Messages.{input_limit, message_listing, octets_listing}
 
 -- ---- what octets are listed as, and what is refused of them
 -- where it is a message of NTLM in a token, its place, from which on nothing is listed
@@ -149,6 +150,10 @@ found_items label profile octets (Some found) refused = ended_items found.ntlm l
 -- the items of octets; of more than a message may have there are none
 unfoldable pub octets_items : Label → Profile → List ℕ → FileListing → FileListing
 octets_items label profile octets refused = if nat_lt 2147483647 (length octets) then refused else found_items label profile octets (listable profile octets) refused
+
+-- octets that are not read as text
+abbrev pub octets_items_listing : Form → Profile → List ℕ → FileListing
+octets_items_listing form profile octets = octets_items (no_label form) profile octets (octets_listing form profile octets)
 
 unfoldable pub spelled_items : Label → Profile → Result (Spelling × List ℕ) (Spelling × ℕ) → FileListing → FileListing
 spelled_items label profile (Ok made) refused = octets_items label profile made.1 refused

@@ -3,9 +3,8 @@
 ghost use Rattle.std.specs.Prelude.{◌≡◌, ◌^◌, ◌<◌, Some, length, IfErr, IfOk};
 ghost use Rattle.krb_items.specs.Reached.{believed};
 ghost use Rattle.krb_run.specs.Files.{FailsFile, ListsFile, shown};
-ghost use Rattle.krb_items_run.specs.Items.{IsItemsListing, believed_text, found_items, octets_items, reached_of, refused_after, whole_items};
-ghost use Rattle.krb_items_run.specs.Seen.{listable_of};
-ghost use Rattle.krb_tool.specs.Messages.{message_listing};
+ghost use Rattle.krb_items_run.specs.Items.{IsItemsListing, believed_text, found_items, octets_items, octets_items_listing, reached_of, refused_after, whole_items};
+ghost use Rattle.krb_items_run.specs.Seen.{listable_of, message_listing_of};
 
 use crate::fronts::front_listable;
 use crate::listable::{Listable, find_listable};
@@ -13,9 +12,9 @@ use crate::records::{put_believed, put_items_end};
 use krb_der::{Profile, Refusal};
 use krb_input::{InputFault, read_input};
 use krb_items::{Lies, Listed, believed, list_octets};
-use krb_record::{Label, TextBuffer};
+use krb_record::{Form, Label, TextBuffer};
 use krb_run::{CountedReader, FileFormat, FileText, RunEnd, RunFault, run_file};
-use krb_tool::list_input;
+use krb_tool::{list_input, list_octets as list_message};
 use std::alloc::{AllocError, Global};
 use std::io::{Read, Write};
 
@@ -25,7 +24,14 @@ const MOST_INPUT: usize = 16777216;
 /// The greatest number of octets of a message.
 const MOST_OCTETS: usize = 2147483647;
 
-/// An input that spells a message of a profile, and the label of the listing of its items.
+/// What is listed: an input that spells a message, or octets that are not read as text.
+#[derive(Clone, Copy)]
+enum Given<'a> {
+    Input(&'a [u8]),
+    Octets(&'a [u8]),
+}
+
+/// A profile of messages, and the label of the listing of their items.
 #[derive(Clone, Copy)]
 struct SpelledItems<'a> {
     label: &'a Label,
@@ -74,28 +80,36 @@ impl SpelledItems<'_> {
         Ok(self.reach(alloc, found, text, front)?.text)
     }
 
-    /// Returns what is listed of octets that an input spells, of which more than a message may have are
-    /// not looked at.
+    /// Returns what is listed of octets that are given, of which more than a message may have are not
+    /// looked at.
     #[tactic(auto, unfolding(crate::specs::Items::octets_items))]
-    fn list_octets(self, alloc: Global, octets: &[u8], input: &[u8]) -> Result<FileText, RunFault>
-        ensures listed { IfOk result (λ made. shown made ≡ octets_items self.entry.label.now self.entry.profile octets.now (message_listing self.entry.label.now self.entry.profile input.now)) }
+    fn list_octets(
+        self,
+        alloc: Global,
+        octets: &[u8],
+        given: Given<'_>,
+    ) -> Result<FileText, RunFault>
+        ensures listed { IfOk result (λ made. shown made ≡ octets_items self.entry.label.now self.entry.profile octets.now (message_listing_of self.entry.label.now self.entry.profile given.entry)) }
         ensures fault { IfErr result (λ e. e ≡ RunFault.Memory) }
     {
         if octets.len() > MOST_OCTETS {
-            return self.list_refused(alloc, input);
+            return self.list_refused(alloc, given);
         }
         match find_listable(self.profile, octets) {
-            None => self.list_refused(alloc, input),
-            Some(found) => self.list_found(alloc, found, octets, input),
+            None => self.list_refused(alloc, given),
+            Some(found) => self.list_found(alloc, found, octets, given),
         }
     }
 
-    /// Returns the listing of an input of which no items are listed.
-    fn list_refused(self, alloc: Global, input: &[u8]) -> Result<FileText, RunFault>
-        ensures listed { IfOk result (λ made. shown made ≡ message_listing self.entry.label.now self.entry.profile input.now) }
+    /// Returns the listing of the message that is given, of which no items are listed.
+    fn list_refused(self, alloc: Global, given: Given<'_>) -> Result<FileText, RunFault>
+        ensures listed { IfOk result (λ made. shown made ≡ message_listing_of self.entry.label.now self.entry.profile given.entry) }
         ensures fault { IfErr result (λ e. e ≡ RunFault.Memory) }
     {
-        list_input(alloc, self.label, self.profile, input)
+        match given {
+            Given::Input(input) => list_input(alloc, self.label, self.profile, input),
+            Given::Octets(octets) => list_message(alloc, self.label.form(), self.profile, octets),
+        }
     }
 
     /// Returns what is listed of octets that something is found in.
@@ -104,22 +118,22 @@ impl SpelledItems<'_> {
         alloc: Global,
         found: Listable,
         octets: &[u8],
-        input: &[u8],
+        given: Given<'_>,
     ) -> Result<FileText, RunFault>
         requires short { length octets.now < 2 ^ 31 }
-        ensures listed { IfOk result (λ made. shown made ≡ found_items self.entry.label.now self.entry.profile octets.now (Some (listable_of found)) (message_listing self.entry.label.now self.entry.profile input.now)) }
+        ensures listed { IfOk result (λ made. shown made ≡ found_items self.entry.label.now self.entry.profile octets.now (Some (listable_of found)) (message_listing_of self.entry.label.now self.entry.profile given.entry)) }
         ensures fault { IfErr result (λ e. e ≡ RunFault.Memory) }
     {
         let text = TextBuffer::new(alloc);
         let listed = self.reach(alloc, found, text, octets)?;
         if found.ntlm.is_some() {
-            return self.list_fault(alloc, listed.text, input);
+            return self.list_fault(alloc, listed.text, given);
         }
         match found.fault {
             None => self.list_whole(listed),
             Some(refusal) => {
                 let text = self.believe(alloc, found.lies, listed.text, octets, refusal)?;
-                self.list_fault(alloc, text, input)
+                self.list_fault(alloc, text, given)
             }
         }
     }
@@ -135,13 +149,18 @@ impl SpelledItems<'_> {
         Ok(FileText { text, end })
     }
 
-    /// Returns what is reached of an input, and the record of its refusal after it.
-    fn list_fault(self, alloc: Global, text: TextBuffer, input: &[u8]) -> Result<FileText, RunFault>
-        ensures listed { IfOk result (λ made. shown made ≡ refused_after text (message_listing self.entry.label.now self.entry.profile input.now)) }
+    /// Returns what is reached of what is given, and the record of its refusal after it.
+    fn list_fault(
+        self,
+        alloc: Global,
+        text: TextBuffer,
+        given: Given<'_>,
+    ) -> Result<FileText, RunFault>
+        ensures listed { IfOk result (λ made. shown made ≡ refused_after text (message_listing_of self.entry.label.now self.entry.profile given.entry)) }
         ensures fault { IfErr result (λ e. e ≡ RunFault.Memory) }
     {
         let mut text = text;
-        let refused = self.list_refused(alloc, input)?;
+        let refused = self.list_refused(alloc, given)?;
         let end = refused.end;
         text.push_str(refused.text.into_string().as_str())?;
         Ok(FileText { text, end })
@@ -157,15 +176,32 @@ impl FileFormat for SpelledItems<'_> {
 
     #[tactic(auto, unfolding(crate::specs::Items::items_listing, crate::specs::Items::spelled_items))]
     fn list(&self, alloc: Global, input: &[u8]) -> Result<FileText, RunFault> {
+        let given = Given::Input(input);
         if input.len() > MOST_INPUT {
-            return self.list_refused(alloc, input);
+            return self.list_refused(alloc, given);
         }
         match read_input(alloc, input) {
-            Ok(made) => self.list_octets(alloc, made.octets.as_slice(), input),
-            Err(InputFault::Misspelled(_)) => self.list_refused(alloc, input),
+            Ok(made) => self.list_octets(alloc, made.octets.as_slice(), given),
+            Err(InputFault::Misspelled(_)) => self.list_refused(alloc, given),
             Err(InputFault::Memory) => Err(RunFault::Memory),
         }
     }
+}
+
+/// Returns the items, in a form, of the message of a profile that octets are: what [`run_items_in`]
+/// writes of an input that is these octets, or spells them, but that it tells them to be octets. They
+/// are not read as text. The one error is running out of memory.
+pub fn list_items(
+    alloc: Global,
+    form: Form,
+    profile: Profile,
+    octets: &[u8],
+) -> Result<FileText, RunFault>
+    ensures listed { IfOk result (λ made. shown made ≡ octets_items_listing form profile octets.now) }
+    ensures fault { IfErr result (λ e. e ≡ RunFault.Memory) }
+{
+    let label = &Label::none(form);
+    SpelledItems { label, profile }.list_octets(alloc, octets, Given::Octets(octets))
 }
 
 /// Lists the items of one message of a profile with a label, which the input spells as

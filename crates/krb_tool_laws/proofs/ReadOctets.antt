@@ -7,13 +7,13 @@ use Rattle.hex.specs.Hex.{hex_digit_value}
 use Rattle.krb_der.specs.Octets.{AreOctets, begins_with, when}
 use Rattle.krb_der.specs.inner.Numbers.{AreOctets-append}
 use Rattle.krb_input.specs.Base64.{base64, base64_from, bits_fault, character_value, due, kept, made, or_else, padding_fault, then_character}
-use Rattle.krb_input.specs.Braces.{before, block, braces, block_length, escapes_or_tokens, to_brace, tokens_if_fit, unended}
+use Rattle.krb_input.specs.Braces.{before, block, braces, block_length, escapes_or_tokens, to_brace, unended}
 use Rattle.krb_input.specs.Characters.{is_blank, is_x, octet_of, count_digits}
 use Rattle.krb_input.specs.Comments.{blanked, unclosed}
 use Rattle.krb_input.specs.Digits.{digits, digits_after}
 use Rattle.krb_input.specs.Escapes.{after_backslash, after_x, escapes, has_escape, is_between}
 use Rattle.krb_input.specs.Readings.{Reading, prepend, then_octet, unless}
-use Rattle.krb_input.specs.Tokens.{after_x as after_zero_x, first_unfit, is_mark, is_token, token, tokens}
+use Rattle.krb_input.specs.Tokens.{after_x as after_zero_x, is_mark, is_token, token, tokens}
 use Rattle.krb_input.proofs.Blanked.{length_blanked}
 
 -- octets, at most so many, or a fault
@@ -112,12 +112,8 @@ mutual
   escape_read left (high ∷ low ∷ text) = after_octet (octet_of high low) left (length text) _ (escapes text) (omega arith) (two_digits high low) (escapes_read text)
 
 -- ---- braces
-fit_read : (fault : Option ℕ) (text : List ℕ) → IsReading (length text) (tokens_if_fit fault text)
-fit_read None text = tokens_read true text
-fit_read (Some left) text = tt
-
 either_read : (text : List ℕ) → IsReading (length text) (escapes_or_tokens text)
-either_read text = either (length text) (has_escape text) (λ _. escapes text) (λ _. tokens_if_fit (first_unfit false text) text) (escapes_read text) (fit_read (first_unfit false text) text)
+either_read text = either (length text) (has_escape text) (λ _. escapes text) (λ _. tokens true text) (escapes_read text) (tokens_read true text)
 
 blanked_read : (comments : _) (text : List ℕ) → IsReading (length text) (escapes_or_tokens (blanked comments text))
 blanked_read comments text = of_more (length (blanked comments text)) (length text) (escapes_or_tokens (blanked comments text)) (omega (arith, length_blanked comments text)) (either_read (blanked comments text))

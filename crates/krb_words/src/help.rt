@@ -111,13 +111,13 @@ Reads one message, Ticket or token, as `krbls message` does. Prints a line for
 each item of its octets, in order: the place of its first octet (`at`), in how
 many items it is (`depth`), its identifier and length octets (`heads`), where
 its contents begin and how many octets they are, and after `item` its path, its
-type and its value. What is inside of an OCTET STRING has no items, nor have the
-layers of a token, but for the message in it.
+type and its value. The layers of a token are items, too, and what an OCTET
+STRING of padata in the clear holds follows it.
 
 The last line is `end items=N`, or the refusal of `krbls message`. Before a
 refusal come the items up to there, and `fault`: the item at fault, with the
 octets before it. If the first length is at fault, `believed` and the items of
-that length follow. Of a token's layer that is refused nothing is listed.
+that length follow.
 
 Examples:
   krbls items --names ticket.kirbi

@@ -57,6 +57,7 @@ static inline uint32_t do_spans(const struct call *c, uint8_t *text, size_t room
     static uint64_t spans[1 << 16];
     size_t numbers = 0, count = room / 8 < 1 << 16 ? room / 8 : 1 << 16;
     uint32_t status = krbls_spans(c->profile, c->limit, c->going_on, (uint16_t)c->port, c->octets, c->size, spans, count, &numbers);
+    if (status == KRBLS_OUT_OF_MEMORY) return status;
     memcpy(text, spans, 8 * (numbers < count ? numbers : count));
     *size = 8 * numbers;
     return status;
@@ -64,6 +65,7 @@ static inline uint32_t do_spans(const struct call *c, uint8_t *text, size_t room
 
 static inline uint32_t do_call(const struct call *c, uint8_t *text, size_t room, size_t *size) {
     if (!strcmp(c->command, "message")) return krbls_message(c->form, c->profile, c->octets, c->size, text, room, size);
+    if (!strcmp(c->command, "items")) return krbls_items(c->form, c->profile, c->octets, c->size, text, room, size);
     if (!strcmp(c->command, "stream"))
         return krbls_stream(c->form, c->profile, c->limit, c->going_on, c->octets, c->size, text, room, size);
     if (!strcmp(c->command, "keytab")) return krbls_keytab(c->form, c->octets, c->size, text, room, size);

@@ -121,8 +121,6 @@ def braced(text):
 def between_braces(text):
     if b"\\x" in text:
         return escapes(text)
-    if TOKENS_ALONE.fullmatch(text) is None:
-        raise Misspelled("hex", first_no_token(text))
     return tokens(text)
 
 

@@ -1,5 +1,5 @@
-"""libkrbls by ctypes, of octets in memory, without a process: judgements, the record of a message, messages as JSON and back,
-rows of cells, and where the octets lie of what is listed.
+"""libkrbls by ctypes, of octets in memory, without a process: judgements, the record of a message and its items, messages as
+JSON and back, rows of cells, and where the octets lie of what is listed.
 
 The library is the one that the environment variable KRBLS_LIBRARY names, or libkrbls.so.1 where the system looks. It is loaded
 at the first call. Calls keep nothing, so threads may call at once; MemoryError is raised if memory runs out.
@@ -9,14 +9,16 @@ from __future__ import annotations
 
 import ctypes
 import functools
+import json
 import os
 from typing import Any, Callable, Iterable, List, NamedTuple, Optional, Tuple, Union
 
 from .errors import LibraryNotFound, WrongOption
+from .item_records import ItemRecord
 
 __all__ = [
     "Judged", "REASONS", "Refusal", "Rows", "Span", "are_octets", "decoded", "encoded", "fields", "frame", "front", "is_there",
-    "judge", "message_line", "spans",
+    "items", "judge", "message_line", "spans",
 ]  # fmt: skip
 
 #: The reasons by their numbers, from 1 on.
@@ -96,6 +98,7 @@ def _library() -> Any:
         "krbls_frame": [number, number, *given, place, place],
         "krbls_path": [number, size, *given, *made],
         "krbls_message": [number, number, *given, *made],
+        "krbls_items": [number, number, *given, *made],
         "krbls_decode": [number, number, number, port, number, *given, *made, *made],
         "krbls_encode": [number, number, number, *given, *made, *made],
         "krbls_fields": [number, number, number, number, number, port, *given, *given, *made, *made],
@@ -192,6 +195,14 @@ def frame(octets: bytes, *, strict: bool = False, limit: int = 0) -> Judged:
 def message_line(octets: bytes, strict: bool) -> str:
     """The line of JSON that `krbls message --json` prints of octets, which are never read as text. LibraryNotFound."""
     return _text(_library().krbls_message, _JSON, int(strict), octets, len(octets))[1]
+
+
+def items(octets: bytes, *, strict: bool = False) -> List[ItemRecord]:
+    """Where each field of the message, Ticket or token is that octets hold: the objects of `krbls items --json`, the last one
+    too, which is `end`, or of what is refused the refusal. The octets are never read as text. LibraryNotFound."""
+    octets = bytes(octets)
+    _, text = _text(_library().krbls_items, _JSON, int(strict), octets, len(octets))
+    return [json.loads(line) for line in text.splitlines()]
 
 
 def are_octets(octets: bytes) -> bool:

@@ -22,3 +22,7 @@ pub record AddsFirst (whole : (ℕ → Spanned) → Spanned) (old new : Spans) (
 abbrev pub IsWithin : (all : ℕ) → Option ℕ → Type 0
 IsWithin all None = Unit {0}
 IsWithin all (Some place) = place ≤ all
+
+-- what there is in all
+abbrev pub spanned : Spans → Spanned
+spanned spans = record { numbers = spans.numbers.items; clean = spans.is_clean }

@@ -1,5 +1,4 @@
-use Rattle.std.proofs.Common.{rules, ◌≡◌, ◌∙◌, ◌-◌, ℕ, List, length, take, drop, ap, arith}
-use Rattle.std.proofs.lemmas.List.{drop_min}
+use Rattle.std.proofs.Common.{rules, ◌≡◌, ◌∙◌, ◌-◌, ℕ, List, length, take, drop, ap}
 use Rattle.krb_c.proofs.rows.line_of.Goals as goal
 
 pub returns : goal.returns

@@ -1,0 +1,4 @@
+pub mod Covers
+pub mod Fronts
+pub mod Printed
+pub mod Masked
