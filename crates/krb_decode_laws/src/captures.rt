@@ -34,8 +34,8 @@ pub fn captures_come_back()
     texts_come_back();
 }
 
-/// What is encoded of the lines of a capture is listed, by [`run_stream`](krb_tool::run_stream) or going
-/// on after refusals, by the records of its sealed messages without their origins, and nothing is refused.
+/// The stream that is encoded of the lines of a capture is listed by the records of its sealed messages,
+/// without their origins, whether the listing goes on after refusals or not: nothing is refused.
 pub fn captures_are_listed_again()
     ensures { CapturesAreListedAgain }
 {

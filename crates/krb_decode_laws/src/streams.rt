@@ -31,8 +31,8 @@ pub fn streams_come_back()
     texts_come_back();
 }
 
-/// What is encoded of the lines of a stream that goes on is listed by the records of its sealed messages,
-/// and nothing is refused.
+/// The stream that is encoded of the lines of a stream that goes on is listed by the records of its sealed
+/// messages, whether the listing goes on after refusals or not: nothing is refused.
 pub fn streams_are_listed_again()
     ensures { StreamsAreListedAgain }
 {
