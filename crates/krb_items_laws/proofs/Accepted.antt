@@ -1,16 +1,16 @@
 -- The items of messages and Tickets that are accepted are all of their octets.
-use Rattle.std.proofs.Common.{◌≡◌, ℕ, zero, suc, ◌+◌, ◌^◌, ◌<◌, ◌≤◌, true, false, List, [], ◌∷◌, ◌++◌, length, Option, Some, None, codes, refl, sym, ◌∙◌, ap, subst, arith, append-nil, le-ltb}
+use Rattle.std.proofs.Common.{◌≡◌, ℕ, ◌^◌, ◌<◌, true, false, List, [], ◌∷◌, length, Some, None, codes, refl, sym, ◌∙◌, ap, subst, arith, append-nil, le-ltb}
 use Rattle.krb_der.specs.Octets.{AreOctets, item as item-of, number}
 use Rattle.krb_der.specs.declared.profile.Profile.{Profile}
 use Rattle.krb_der.specs.declared.profile.Profile.TheVariants as profiles
-use Rattle.krb_judge.specs.Parses.{refusal_of, ticket_refusal}
+use Rattle.krb_judge.specs.Parses.{refusal_of}
 use Rattle.krb_msg.specs.Der.{IsDer}
 use Rattle.krb_msg.specs.Grammar.{messages, ticket as ticket_term}
 use Rattle.krb_msg.specs.Judgement.{judgement, term_judgement}
 use Rattle.krb_msg.specs.Laws.{AreOneOf}
 use Rattle.krb_msg.specs.Profiles.{profile_term}
 use Rattle.krb_msg.specs.Shape.{is_unambiguous}
-use Rattle.krb_msg.specs.Term.{Term, Value, der, tag_of}
+use Rattle.krb_msg.specs.Term.{Term, der, tag_of}
 use Rattle.krb_msg.specs.Views.{kind_name, kind_term_in, kind_with_tag}
 use Rattle.krb_msg.specs.declared.message.Kind.{Kind}
 use Rattle.krb_msg.specs.declared.message.Kind.TheVariants as kind
@@ -19,14 +19,14 @@ use Rattle.krb_msg.proofs.Grammars.{all_is_decided, whole_is_one_of}
 use Rattle.krb_msg.proofs.KindLaws.{kind_of_one_of}
 use Rattle.krb_source.specs.declared.layer.Layer.TheVariants.{Frame}
 use Rattle.krb_items.specs.Heads.{Begun, begun_at, with_head}
-use Rattle.krb_items.specs.Items.{Here, Items, all_items, after_item, container, frame_by, frame_items, here_at, kind_items, message_items, most_levels}
+use Rattle.krb_items.specs.Items.{Here, Items, all_items, container, here_at, kind_items, message_items, most_levels}
 use Rattle.krb_items.specs.Shapes.{ItemType, message_of, ticket}
 use Rattle.krb_items.specs.Terms.{is_of}
 use Rattle.krb_items.specs.declared.reaching.Lies.TheVariants as lies
 use Rattle.krb_items.specs.declared.tag.Tag.TheVariants as tags
 use Rattle.krb_items_laws.specs.Covers.{AreInOrder, Covers, FramesAreCovered, MessagesAreCovered, TicketsAreCovered, whole_items}
 use Rattle.krb_items_laws.proofs.Covering.{all_of}
-use Rattle.krb_items_laws.proofs.Filling.{AreAt, Fills, IsHeaded, at-rest, covered-rest, fills-item, fills-of, fills-same}
+use Rattle.krb_items_laws.proofs.Filling.{AreAt, Fills, at-rest, covered-rest, fills-item, fills-of, fills-same}
 use Rattle.krb_items_laws.proofs.Holding.{IsAccepted, accepted, accepted-value, fills, whole-verdict}
 use Rattle.krb_items_laws.proofs.Types.{nests}
 

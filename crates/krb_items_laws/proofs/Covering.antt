@@ -1,18 +1,18 @@
 -- The items of what is accepted are all of its octets.
-use Rattle.std.proofs.Common.{◌≡◌, ℕ, zero, suc, ◌+◌, ◌-◌, ◌^◌, ◌<◌, ◌≤◌, Bool, true, false, ◌&&◌, ◌==◌, not, nat_lt, ltb, List, [], ◌∷◌, ◌++◌, length, drop, Option, Some, None, ℤ, refl, sym, ◌∙◌, ap, subst, arith, le-ltb, append_assoc, append-nil, length-append, drop_at, cond, eqb-true, true≢false}
+use Rattle.std.proofs.Common.{◌≡◌, ℕ, zero, suc, ◌+◌, ◌-◌, ◌^◌, ◌<◌, ◌≤◌, Bool, true, false, ◌==◌, not, List, [], ◌∷◌, ◌++◌, length, drop, Option, Some, None, ℤ, refl, sym, ◌∙◌, ap, subst, arith, le-ltb, length-append, drop_at, eqb-true, true≢false}
 use Rattle.std.proofs.lemmas.Bool.{and_parts, not-true}
 use Rattle.std.specs.List.{list_all, flat_map, AllByRecursion}
 use Rattle.krb_der.specs.Octets.{AreOctets, begins_with, when}
-use Rattle.krb_msg.specs.Term.{Term, Fields, Integer, Text, Octets, Time, Bits, Sequence, SequenceOf, Tagged, Application, End, Required, Optional, tag_of, Value, Values, der, der_of_fields, Fits, AllFit, IfPresent}
+use Rattle.krb_msg.specs.Term.{Term, Fields, Integer, Text, Octets, Time, Bits, Sequence, SequenceOf, Tagged, Application, End, Required, Optional, tag_of, Value, Values, der, der_of_fields, Fits, AllFit}
 use Rattle.krb_msg.specs.Shape.{is_unambiguous, are_unambiguous, may_begin}
 use Rattle.krb_msg.specs.inner.Values.{contents, der_begins, may_begin_from_der}
 use Rattle.krb_judge.specs.declared.locating.names.Names.{Names}
-use Rattle.krb_items.specs.Heads.{Begun, begun_at, headed, size_of, count_in}
+use Rattle.krb_items.specs.Heads.{Begun, size_of, count_in}
 use Rattle.krb_items.specs.Held.{is_held, leaf_after, number_after, opened, held_name}
-use Rattle.krb_items.specs.Items.{Here, Item, Items, Limits, after_item, begins_as, begun_here, container, contents_items, ended, element_items, field_items, followed_by, here_in, item_items, leaf_items, named, not_there, of_headed, opened_items, passed, sequence_items, whole}
+use Rattle.krb_items.specs.Items.{Here, Items, Limits, after_item, begins_as, begun_here, container, contents_items, ended, element_items, field_items, followed_by, here_in, item_items, leaf_items, named, not_there, of_headed, opened_items, passed}
 use Rattle.krb_items.specs.Names.{element_path, field_path}
 use Rattle.krb_items.specs.Shapes.{Field, ItemType, fields_of, held_type, item_of}
-use Rattle.krb_items.specs.Terms.{are_of, is_leaf, is_named, is_of, is_tag, names_in}
+use Rattle.krb_items.specs.Terms.{are_of, is_leaf, is_of, names_in}
 use Rattle.krb_items.specs.declared.shape.Held.{Held}
 use Rattle.krb_items.specs.declared.shape.Leaf.{Leaf}
 use Rattle.krb_items.specs.declared.shape.Leaf.TheVariants as leaves
@@ -20,7 +20,7 @@ use Rattle.krb_items.specs.declared.shape.Shape.{Shape}
 use Rattle.krb_items.specs.declared.shape.Shape.TheVariants as shapes
 use Rattle.krb_items.specs.declared.tag.Tag.{Tag}
 use Rattle.krb_items_laws.specs.Covers.{head_octets}
-use Rattle.krb_items_laws.proofs.Filling.{AreAt, Fills, IsHeaded, at-first, at-rest, at-within, fills-at, fills-item, fills-leaf, fills-none, fills-of, fills-same, fills-then}
+use Rattle.krb_items_laws.proofs.Filling.{AreAt, Fills, IsHeaded, at-first, at-rest, at-within, fills-item, fills-leaf, fills-none, fills-of, fills-same, fills-then}
 use Rattle.krb_items_laws.proofs.ReadHeads.{Reads, flat}
 use Rattle.krb_items_laws.proofs.Types.{Inside, Opens, begins-as, begins-with, count-der, inside, is_plain, leaf-opens, leaf_nests, nests, shape_nests, is_small}
 

@@ -1,5 +1,5 @@
 -- Items that fill octets, one after another and in one another.
-use Rattle.std.proofs.Common.{◌≡◌, ℕ, suc, ◌+◌, ◌<◌, ◌≤◌, ◌⊎◌, inl, inr, Bool, true, false, nat_lt, ltb, List, [], ◌∷◌, ◌++◌, length, take, drop, Option, Some, None, refl, sym, ◌∙◌, ap, subst, arith, lt-ltb, le-ltb, append_assoc, append-nil, length-append, take_at, drop_at, take-append-drop, drop_of_length-le, cond}
+use Rattle.std.proofs.Common.{◌≡◌, ℕ, ◌+◌, ◌<◌, ◌≤◌, ◌⊎◌, inl, inr, true, false, List, [], ◌∷◌, ◌++◌, length, take, drop, Option, Some, None, refl, sym, ◌∙◌, ap, subst, arith, lt-ltb, le-ltb, append_assoc, length-append, take_at, drop_at, take-append-drop, drop_of_length-le, cond}
 use Rattle.std.proofs.lemmas.Bool.{cases_Bool}
 use Rattle.std.proofs.lemmas.List.{drop-drop}
 use Rattle.krb_items.specs.Heads.{Begun, size_of}

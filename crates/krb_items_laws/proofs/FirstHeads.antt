@@ -1,11 +1,9 @@
 -- The head that an item of DER begins with is read.
-use Rattle.std.proofs.Common.{◌≡◌, ℕ, ◌+◌, ◌-◌, ◌*◌, ◌^◌, ◌<◌, ◌≤◌, ◌⊎◌, inl, inr, Bool, true, false, ◌&&◌, ◌||◌, ◌==◌, nat_lt, ltb, eqb, List, [], ◌∷◌, ◌++◌, length, take, drop, Option, Some, None, refl, sym, ◌∙◌, ap, arith, lt-ltb, le-ltb, ne_eqb, cond}
+use Rattle.std.proofs.Common.{◌≡◌, ℕ, ◌+◌, ◌-◌, ◌^◌, ◌<◌, ◌≤◌, ◌⊎◌, inl, inr, true, false, ◌&&◌, ◌||◌, ltb, eqb, List, [], ◌∷◌, ◌++◌, length, take, Some, arith, lt-ltb, le-ltb, ne_eqb}
 use Rattle.std.proofs.lemmas.Bool.{cases_lt, cases_Bool}
 use Rattle.std.proofs.lemmas.Bool.Decides.{nat_tests}
 use Rattle.krb_der.specs.Octets.{length_octets, number}
-use Rattle.krb_der.specs.declared.why.Why.{Why}
-use Rattle.krb_der.specs.declared.why.Why.TheVariants as why
-use Rattle.krb_msg.specs.Judgement.{Head as Judged, Partial, Refused, Got, fitting, short_head, head, long_head as judged_long}
+use Rattle.krb_msg.specs.Judgement.{Got, fitting, head, long_head as judged_long}
 use Rattle.krb_msg.proofs.Heads.{head-length_octets}
 use Rattle.krb_items.specs.Heads.{head_in, long_head}
 

@@ -1,10 +1,9 @@
 -- What an OCTET STRING holds is filled by its items, and so is each item, however deep it nests.
-use Rattle.std.proofs.Common.{◌≡◌, ℕ, zero, suc, ◌+◌, ◌^◌, ◌<◌, ◌≤◌, Bool, true, false, ◌&&◌, ◌==◌, nat_lt, nat_eq, ltb, List, [], ◌∷◌, ◌++◌, length, Option, Some, None, is_none, is_some, refl, sym, ◌∙◌, ap, subst, arith, append-nil, cond, eqb-true}
-use Rattle.std.proofs.lemmas.Bool.{and_parts, cases_Bool}
+use Rattle.std.proofs.Common.{◌≡◌, ℕ, zero, suc, ◌+◌, ◌^◌, ◌<◌, ◌≤◌, Bool, true, false, ◌==◌, nat_lt, nat_eq, List, [], ◌∷◌, length, Option, Some, None, is_none, is_some, refl, sym, ◌∙◌, ap, subst, arith, append-nil, cond, eqb-true}
+use Rattle.std.proofs.lemmas.Bool.{and_parts}
 use Rattle.std.proofs.lemmas.Bool.Decides.{nat_tests}
 use Rattle.std.specs.Cmp.Lexicographic.{pointwise}
 use Rattle.krb_der.specs.Octets.{AreOctets, item}
-use Rattle.krb_der.specs.declared.verdict.Refusal.{Refusal}
 use Rattle.krb_der.specs.declared.verdict.Verdict.{Verdict}
 use Rattle.krb_der.specs.declared.verdict.Verdict.TheVariants as verdict
 use Rattle.krb_der.specs.declared.why.Why.TheVariants as why
@@ -13,23 +12,21 @@ use Rattle.krb_msg.specs.Der.{IsDer}
 use Rattle.krb_msg.specs.Grammar.{ap_req, encrypted_data, method_data}
 use Rattle.krb_msg.specs.Judgement.{term_judgement}
 use Rattle.krb_msg.specs.Shape.{is_unambiguous}
-use Rattle.krb_msg.specs.Term.{Term, Value, der, Fits}
+use Rattle.krb_msg.specs.Term.{Term, der}
 use Rattle.krb_msg.proofs.Grammars.{value_is_decided, whole_is_value}
 use Rattle.krb_padata.specs.Grammar.{etype_info, etype_info2, pa_for_user, pa_fx_fast_reply, pa_fx_fast_request, pa_pac_options}
 use Rattle.krb_padata.specs.PacRequest.{boolean_octet, pac_request, pac_request_in}
-use Rattle.krb_items.specs.Heads.{Begun, begun_at, head_in, headed, octet_of, with_head}
+use Rattle.krb_items.specs.Heads.{with_head}
 use Rattle.krb_items.specs.Held.{is_all_of, is_held}
-use Rattle.krb_items.specs.Items.{Here, Items, begun_here, contents_items, field_items, here_in, item_items, of_headed, whole}
+use Rattle.krb_items.specs.Items.{Here, begun_here, field_items, here_in, item_items}
 use Rattle.krb_items.specs.Shapes.{ItemType, fields_of, held_type, in_tag, truth}
 use Rattle.krb_items.specs.Terms.{is_of}
-use Rattle.krb_items.specs.declared.shape.Held.{Held}
 use Rattle.krb_items.specs.declared.shape.Held.TheVariants as helds
 use Rattle.krb_items.specs.declared.shape.Leaf.TheVariants as leaves
 use Rattle.krb_items.specs.declared.shape.Sequence.TheVariants as sequences
 use Rattle.krb_items.specs.declared.tag.Tag.TheVariants as tags
-use Rattle.krb_items_laws.specs.Covers.{head_octets}
 use Rattle.krb_items_laws.proofs.Covering.{Fill, FillHeld, all_of, container-fill, fill-item, inner-at, leaf-enough, reads-fill}
-use Rattle.krb_items_laws.proofs.Filling.{AreAt, Fills, IsHeaded, at-within, fills-leaf, fills-none, fills-of, fills-same, fills-then}
+use Rattle.krb_items_laws.proofs.Filling.{AreAt, Fills, at-within, fills-leaf, fills-none, fills-of, fills-same, fills-then}
 use Rattle.krb_items_laws.proofs.ReadHeads.{Reads, head_of, reads-last, reads-more}
 use Rattle.krb_items_laws.proofs.Types.{nests}
 

@@ -1,5 +1,5 @@
 -- The items of octets have octets: in their heads, in what is shown of them, and in their paths.
-use Rattle.std.proofs.Common.{◌≡◌, ℕ, ℤ, zero, suc, ◌+◌, ◌-◌, Bool, true, false, ◌&&◌, ◌==◌, nat_lt, List, [], ◌∷◌, ◌++◌, length, take, drop, codes, bytes_eq, Option, Some, None, IfSome, refl, sym, ◌∙◌, ap, subst, cond}
+use Rattle.std.proofs.Common.{◌≡◌, ℕ, zero, suc, ◌+◌, ◌-◌, Bool, true, false, ◌==◌, nat_lt, List, [], ◌∷◌, ◌++◌, length, take, drop, codes, bytes_eq, Option, Some, None, IfSome, refl, cond}
 use Rattle.std.proofs.lemmas.Bool.{and_parts}
 use Rattle.std.specs.List.{AllByRecursion, list_all}
 use Rattle.krb_der.specs.Octets.{AreOctets, begins_with, when}
@@ -11,12 +11,11 @@ use Rattle.krb_msg.specs.declared.message.Kind.TheVariants as kinds
 use Rattle.krb_record.specs.Text.{AllAreOctets}
 use Rattle.krb_record.proofs.Printable.{Prints, is_printable, join, word}
 use Rattle.krb_text_laws.proofs.Printable.{number as number_prints}
-use Rattle.krb_source.specs.declared.layer.Layer.{Layer}
 use Rattle.krb_source.specs.declared.layer.Layer.TheVariants as layers
 use Rattle.krb_token.specs.Gss.{negotiation}
-use Rattle.krb_items.specs.Heads.{Begun, Headed, begun_at, contents_in, count_in, head_in, headed, headed_by, octet_of, size_of, stopped, with_head, with_octets, with_unknown}
+use Rattle.krb_items.specs.Heads.{Begun, Headed, begun_at, contents_in, count_in, head_in, headed, headed_by, octet_of, size_of, with_head, with_octets, with_unknown}
 use Rattle.krb_items.specs.Held.{held_name, leaf_after, number_after, opened}
-use Rattle.krb_items.specs.Items.{Here, Item, Items, Limits, Part, after_item, all_items, begins_as, begun_here, container, contents_items, cut_in, element_items, ended, field_items, followed_by, frame_by, frame_size, goes_on, gss_in, gss_items, here_at, here_in, hints_items, identified_items, is_counted, is_gone_into, item_items, kerberos_items, kerberos_message, kind_items, leaf_items, left_out, mechanism_items, message_items, missing, most_levels, named, not_identified, not_there, of_contents, of_headed, opened_items, passed, right_of, sequence_items, spnego_in_gss, spnego_items, token_in, token_items, token_message, unknown, whole}
+use Rattle.krb_items.specs.Items.{Here, Item, Items, Limits, Part, after_item, all_items, begins_as, begun_here, container, contents_items, cut_in, element_items, ended, field_items, followed_by, frame_by, frame_size, goes_on, gss_in, gss_items, here_at, here_in, hints_items, identified_items, identified_message, is_counted, is_gone_into, item_items, kerberos_items, kerberos_message, kind_items, leaf_items, left_out, mechanism_items, message_items, missing, most_levels, named, not_identified, not_there, of_contents, of_headed, opened_items, passed, right_of, sequence_items, spnego_in_gss, spnego_items, token_in, token_items, token_message, unknown, whole}
 use Rattle.krb_items.specs.Names.{element_path, field_path}
 use Rattle.krb_items.specs.Reached.{items_as}
 use Rattle.krb_items.specs.Shapes.{Field, ItemType, fields_of, held_type, identifier_type, item_of, message_of, neg_name, neg_type, ticket}
@@ -231,16 +230,22 @@ module _ (item : Here → ItemType → List ℕ → Items) (plains : Plains item
   token-message : (limits : Limits) (name : Option (List ℕ)) (here : Here) (octets : List ℕ) → NamePrints name → AreOctets octets → ArePlain (token_message item limits name here octets)
   token-message limits name here octets n a = plain-if (nat_lt here.place limits.limit) _ _ (message-plain here octets a) (unknown-plain name here octets n a)
 
-  kerberos-message : (limits : Limits) (here : Here) (octets : List ℕ) → Prints here.name → AreOctets octets → ArePlain (kerberos_message item limits here octets)
-  kerberos-message limits here [] n a = missing-plain here (codes "message") n (word (codes "message") refl)
-  kerberos-message limits here (octet ∷ octets) n a = token-message limits None here (octet ∷ octets) tt a
+  kerberos-message : (limits : Limits) (here : Here) (room : ℕ) (octets : List ℕ) → Prints here.name → AreOctets octets → ArePlain (kerberos_message item limits here room octets)
+  kerberos-message limits here zero octets n a = missing-plain here (codes "message") n (word (codes "message") refl)
+  kerberos-message limits here (suc room) [] n a = unknown-plain (Some here.name) here [] n a
+  kerberos-message limits here (suc room) (octet ∷ octets) n a = token-message limits None here (octet ∷ octets) tt a
 
-  kerberos-plain : (limits : Limits) (here : Here) (octets : List ℕ) → Prints here.name → AreOctets octets → ArePlain (kerberos_items item limits here octets)
-  kerberos-plain limits here octets n a =
+  identified-message : (limits : Limits) (here : Here) (room : ℕ) (octets : List ℕ) → Prints here.name → AreOctets octets → ArePlain (identified_message item limits here room octets)
+  identified-message limits here room octets n a =
       plain-if (nat_lt (right_of limits here octets) 2) _ _ (missing-plain here (codes "token-id") n (word (codes "token-id") refl))
       (plain-after (record { name = field_path here.name (codes "token-id"); begun = with_octets (begun_here here) tags.Octets 2; shown = Some (leaves.Octets, take 2 octets) }) _
       (record { name = field-prints here.name (codes "token-id") n (word (codes "token-id") refl); heads = tt; shown = AreOctets-take 2 octets a })
-      (kerberos-message limits (passed here 2 None) (drop 2 octets) n (AreOctets-drop 2 octets a)))
+      (kerberos-message limits (passed here 2 None) (room - 2) (drop 2 octets) n (AreOctets-drop 2 octets a)))
+
+  kerberos-plain : (limits : Limits) (here : Here) (room : ℕ) (octets : List ℕ) → Prints here.name → AreOctets octets → ArePlain (kerberos_items item limits here room octets)
+  kerberos-plain limits here zero octets n a = identified-message limits here zero octets n a
+  kerberos-plain limits here (suc room) [] n a = unknown-plain (Some here.name) here [] n a
+  kerberos-plain limits here (suc room) (octet ∷ octets) n a = identified-message limits here (suc room) (octet ∷ octets) n a
 
   left-out : (fault : Option Refusal) (neg : NegToken) (here : Here) → Prints here.name → ArePlain (left_out fault neg here)
   left-out None neg here n = nothing
@@ -250,31 +255,32 @@ module _ (item : Here → ItemType → List ℕ → Items) (plains : Plains item
   spnego-plain limits neg here octets n a =
       plain-then (item here (neg_type neg) octets) _ (plains here (neg_type neg) octets n a) (left-out limits.fault neg (here_at here.layers here.name (here.place + count_in octets) (here.depth + 1)) n)
 
-  spnego-in-gss : (limits : Limits) (here : Here) (octets : List ℕ) → AreOctets octets → ArePlain (spnego_in_gss item limits here octets)
-  spnego-in-gss limits here [] a = plain-cut (Some (codes "SPNEGO")) (begun_here here) false (word (codes "SPNEGO") refl) tt
-  spnego-in-gss limits here (octet ∷ octets) a =
+  spnego-in-gss : (limits : Limits) (here : Here) (room : ℕ) (octets : List ℕ) → Prints here.name → AreOctets octets → ArePlain (spnego_in_gss item limits here room octets)
+  spnego-in-gss limits here zero octets n a = plain-cut (Some (codes "SPNEGO")) (begun_here here) false (word (codes "SPNEGO") refl) tt
+  spnego-in-gss limits here (suc room) [] n a = unknown-plain (Some here.name) here [] n a
+  spnego-in-gss limits here (suc room) (octet ∷ octets) n a =
       plain-if (nat_lt here.place limits.limit) _ _
       (spnego-plain limits negs.Init (here_at (layers.Gss ∷ layers.Spnego ∷ []) (codes "SPNEGO") here.place here.depth) (octet ∷ octets) (word (codes "SPNEGO") refl) a)
       (unknown-plain None (here_at (layers.Gss ∷ layers.Spnego ∷ []) (codes "SPNEGO") here.place here.depth) (octet ∷ octets) tt a)
 
-  mechanism-plain : (limits : Limits) (here : Here) (identifier octets : List ℕ) → Prints here.name → AreOctets octets → ArePlain (mechanism_items item limits here identifier octets)
-  mechanism-plain limits here identifier octets n a = plain-when (bytes_eq identifier negotiation) _ _ (spnego-in-gss limits here octets a) (kerberos-plain limits here octets n a)
+  mechanism-plain : (limits : Limits) (here : Here) (identifier : List ℕ) (room : ℕ) (octets : List ℕ) → Prints here.name → AreOctets octets → ArePlain (mechanism_items item limits here identifier room octets)
+  mechanism-plain limits here identifier room octets n a = plain-when (bytes_eq identifier negotiation) _ _ (spnego-in-gss limits here room octets n a) (kerberos-plain limits here room octets n a)
 
-  not-identified : (here : Here) (octets : List ℕ) → Prints here.name → AreOctets octets → ArePlain (not_identified here octets)
-  not-identified here [] n a = missing-plain here (codes "oid") n (word (codes "oid") refl)
-  not-identified here (octet ∷ octets) n a = unknown-plain (Some here.name) here (octet ∷ octets) n a
+  not-identified : (here : Here) (room : ℕ) (octets : List ℕ) → Prints here.name → AreOctets octets → ArePlain (not_identified here room octets)
+  not-identified here zero octets n a = missing-plain here (codes "oid") n (word (codes "oid") refl)
+  not-identified here (suc room) octets n a = unknown-plain (Some here.name) here octets n a
 
-  identified-plain : (limits : Limits) (here : Here) (octets : List ℕ) → Prints here.name → AreOctets octets → ArePlain (identified_items item limits here octets)
-  identified-plain limits here octets n a =
+  identified-plain : (limits : Limits) (here : Here) (room : ℕ) (octets : List ℕ) → Prints here.name → AreOctets octets → ArePlain (identified_items item limits here room octets)
+  identified-plain limits here room octets n a =
       plain-when (begins_with (octet_of tags.ObjectIdentifier) octets) _ _
       (plain-then (item (named here (field_path here.name (codes "oid"))) identifier_type octets) _ (plains (named here (field_path here.name (codes "oid"))) identifier_type octets (field-prints here.name (codes "oid") n (word (codes "oid") refl)) a)
-      (mechanism-plain limits (passed here (count_in octets) None) (contents_in (tags.ObjectIdentifier ∷ []) octets) (drop (count_in octets) octets) n (AreOctets-drop (count_in octets) octets a)))
-      (not-identified here octets n a)
+      (mechanism-plain limits (passed here (count_in octets) None) (contents_in (tags.ObjectIdentifier ∷ []) octets) (room - count_in octets) (drop (count_in octets) octets) n (AreOctets-drop (count_in octets) octets a)))
+      (not-identified here room octets n a)
 
   pub gss-plain : (limits : Limits) (here : Here) (octets : List ℕ) → Prints here.name → AreOctets octets → ArePlain (gss_items item limits here octets)
   gss-plain limits here octets n a =
       of-headed here.name (headed limits.limit (begun_here here) (tags.Application 0 ∷ []) octets) _ n (heads-plain limits.limit (begun_here here) (tags.Application 0 ∷ []) octets tt a)
-      (λ begun inner h b. container-plain here.name begun (identified_items item limits (here_in here.name begun) inner) n h (identified-plain limits (here_in here.name begun) inner n b))
+      (λ begun inner h b. container-plain here.name begun (identified_items item limits (here_in here.name begun) (size_of begun.size) inner) n h (identified-plain limits (here_in here.name begun) (size_of begun.size) inner n b))
 
   token-in : (limits : Limits) (here : Here) (octets : List ℕ) → Prints here.name → AreOctets octets → ArePlain (token_in item limits here octets)
   token-in limits here [] n a = unknown-plain (Some here.name) here [] n a

@@ -1,5 +1,5 @@
 -- The records of items of octets are lines of printable ASCII.
-use Rattle.std.proofs.Common.{◌≡◌, ℕ, ℤ, pos, ◌+◌, ◌-◌, ◌^◌, ◌<◌, ◌≤◌, min, max, Bool, true, false, ◌||◌, ◌&&◌, nat_lt, nat_le, List, [], ◌∷◌, ◌++◌, length, take, drop, codes, Option, Some, None, IfSome, refl, sym, ◌∙◌, ap, subst, arith, cond, append_assoc, append-nil}
+use Rattle.std.proofs.Common.{◌≡◌, ℕ, pos, ◌+◌, ◌-◌, ◌^◌, max, Bool, true, false, nat_lt, List, [], ◌∷◌, ◌++◌, length, take, drop, codes, Option, Some, None, IfSome, refl, sym, ◌∙◌, ap, subst, arith, cond, append_assoc, append-nil}
 use Rattle.std.specs.Fmt.{decimal}
 use Rattle.std.specs.List.{AllByRecursion, flat_map, list_all}
 use Rattle.krb_der.specs.Octets.{AreOctets, integer_value}
@@ -9,27 +9,25 @@ use Rattle.krb_der.specs.declared.verdict.Refusal.{Refusal}
 use Rattle.krb_source.specs.Layers.{layer_name}
 use Rattle.krb_source.specs.declared.layer.Layer.{Layer}
 use Rattle.krb_source.specs.declared.layer.Layer.TheVariants as layers
-use Rattle.krb_registry.specs.declared.registry.Registry.{Registry}
-use Rattle.krb_record.specs.Forms.{base_of, closing, field, form_of, heading, labelled, last_text, opening_from, match_base}
-use Rattle.krb_record.specs.Labels.{Label, begin_text, label_text, with_label}
+use Rattle.krb_record.specs.Forms.{closing, field, form_of, heading, opening_from}
+use Rattle.krb_record.specs.Labels.{begin_text, label_text}
 use Rattle.krb_record.specs.Laws.{IsOneLine}
 use Rattle.krb_record.specs.Origins.{message_origin}
-use Rattle.krb_record.specs.Text.{AllAreOctets, IsPrintable, hex, joined, line_feed, list_text}
-use Rattle.krb_record.specs.Values.{FileName, Layers, Number, Reason, String, Value, Absent, if_there, printed}
+use Rattle.krb_record.specs.Text.{AllAreOctets, IsPrintable, hex, line_feed}
+use Rattle.krb_record.specs.Values.{FileName, Layers, Number, Reason, String, Value, Absent, if_there}
 use Rattle.krb_record.specs.declared.form.Base.{Base}
 use Rattle.krb_record.specs.declared.form.Base.TheVariants as bases
 use Rattle.krb_record.proofs.Printable.{Prints, is_printable, join, word}
 use Rattle.krb_record.proofs.Reasons as reasons
 use Rattle.krb_text_laws.proofs.EachForm.{IsShown, begins, ends, labelled_field, one_field}
 use Rattle.krb_text_laws.proofs.EndOneLine.{number_shown}
-use Rattle.krb_text_laws.proofs.Printable.{all_joined, flat, in_hex, listed, number as number_prints}
+use Rattle.krb_text_laws.proofs.Printable.{all_joined, in_hex, listed, number as number_prints}
 use Rattle.krb_items.specs.Heads.{Begun}
-use Rattle.krb_items.specs.Items.{Item, Items, Part}
+use Rattle.krb_items.specs.Items.{Item, Part}
 use Rattle.krb_items.specs.Reached.{context_by, items_as, last_members, limits_by, reached, seen}
-use Rattle.krb_items.specs.Records.{Context, after_place, before_place, contents_place, contents_text, ending, fault_line, flags_in, heads_text, hex_if, hide_if, identifier_by, identifier_in, identifier_numbers, integer_in, is_hidden, item_line, item_value, leaf_value, listed_fault, listed_item, listed_items, listed_part, number_of_tag, number_value, numbers_in, octet_at_fault, octets_before, origin_text, quoted, tag_word, truth_in, type_word, via_text, with_number, words_field, words_text}
+use Rattle.krb_items.specs.Records.{Context, after_place, before_place, contents_place, contents_text, fault_line, heads_text, hex_if, hide_if, identifier_by, identifier_numbers, item_line, item_value, leaf_value, listed_fault, listed_item, listed_items, listed_part, number_of_tag, number_value, numbers_in, octet_at_fault, octets_before, origin_text, quoted, tag_word, type_word, via_text, with_number, words_field, words_text}
 use Rattle.krb_items.specs.declared.listing.Listed.{Listed}
 use Rattle.krb_items.specs.declared.listing.Shown.{Shown}
-use Rattle.krb_items.specs.declared.reaching.Lies.{Lies}
 use Rattle.krb_items.specs.declared.shape.Leaf.{Leaf}
 use Rattle.krb_items.specs.declared.shape.Leaf.TheVariants as leaves
 use Rattle.krb_items.specs.declared.tag.Tag.{Tag}

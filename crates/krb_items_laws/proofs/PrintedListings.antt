@@ -1,17 +1,16 @@
 -- The listing of the items of an input is lines of printable ASCII.
-use Rattle.std.proofs.Common.{◌≡◌, ℕ, pos, ◌+◌, ◌^◌, ◌<◌, Bool, true, false, nat_lt, List, [], ◌∷◌, ◌++◌, length, take, codes, Option, Some, None, IfSome, Result, Ok, Err, refl, sym, ◌∙◌, ap, subst, cond}
-use Rattle.std.specs.List.{AllByRecursion, flat_map}
+use Rattle.std.proofs.Common.{◌≡◌, ℕ, Bool, true, false, nat_lt, List, [], ◌∷◌, ◌++◌, length, take, Option, Some, None, IfSome, Result, Ok, Err, refl, cond}
+use Rattle.std.specs.List.{AllByRecursion}
 use Rattle.krb_der.specs.Octets.{AreOctets}
 use Rattle.krb_der.specs.inner.Numbers.{AreOctets-take}
 use Rattle.krb_der.specs.declared.profile.Profile.{Profile}
 use Rattle.krb_der.specs.declared.verdict.Refusal.{Refusal}
 use Rattle.krb_source.specs.declared.spelling.Spelling.{Spelling}
 use Rattle.krb_input.specs.Inputs.{spelled}
-use Rattle.krb_record.specs.Forms.{form_of, is_marked, record_line}
+use Rattle.krb_record.specs.Forms.{form_of, is_marked}
 use Rattle.krb_record.specs.Labels.{line_of}
 use Rattle.krb_record.specs.Laws.{IsOneLine}
-use Rattle.krb_record.specs.Text.{IsPrintable, line_feed}
-use Rattle.krb_record.specs.Values.{Number, the}
+use Rattle.krb_record.specs.Text.{IsPrintable}
 use Rattle.krb_record.specs.declared.form.Base.{Base}
 use Rattle.krb_record.specs.declared.form.Base.TheVariants as bases
 use Rattle.krb_record.specs.declared.form.Form.{Form}
@@ -21,8 +20,8 @@ use Rattle.krb_text_laws.proofs.EndOneLine.{one_line}
 use Rattle.krb_items.specs.Reached.{believed}
 use Rattle.krb_items.specs.declared.listing.Listed.{Listed}
 use Rattle.krb_items.specs.declared.reaching.Lies.{Lies}
-use Rattle.krb_items_run.specs.Items.{Listable, believed_record, believed_text, ended_items, found_items, front_listable, items_end_record, items_listing, judged_items, listable, octets_items, reached_before, reached_of, refused_after, spelled_items, whole_items}
-use Rattle.krb_tool_laws.specs.Listings.{AreLinesOf, ArePrintedLines, AreRead, IsLineOf, IsNamed, MessagesAreLines}
+use Rattle.krb_items_run.specs.Items.{Listable, believed_record, believed_text, ended_items, found_items, front_listable, items_end_record, items_listing, judged_items, listable, octets_items, reached_before, reached_of, spelled_items}
+use Rattle.krb_tool_laws.specs.Listings.{AreLinesOf, ArePrintedLines, IsLineOf, MessagesAreLines}
 use Rattle.krb_tool_laws.proofs.Labelled.{labelled_line}
 use Rattle.krb_tool_laws.proofs.SpelledOctets.{IsSpelled, input_spelled}
 use Rattle.krb_items_laws.specs.Printed.{ItemListingsArePrinted, label_in}

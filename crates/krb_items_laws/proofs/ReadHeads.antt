@@ -1,12 +1,9 @@
 -- The heads of an item of DER are read, with all of its contents.
-use Rattle.std.proofs.Common.{◌≡◌, ℕ, suc, ◌+◌, ◌%◌, ◌^◌, ◌<◌, ◌≤◌, Bool, true, false, ◌&&◌, ◌==◌, nat_lt, nat_eq, eqb, ltb, List, [], ◌∷◌, ◌++◌, length, take, drop, Option, Some, None, refl, sym, ◌∙◌, ap, subst, arith, le-ltb, eq-eqb, append_assoc, append-nil, length-append, take_at, drop_at, flat_map, eqb-true, ltb-true, mod-eq_of_lt}
-use Rattle.std.proofs.lemmas.Bool.{and_parts, false≢true}
-use Rattle.std.specs.List.{list_all}
-use Rattle.krb_der.specs.Octets.{item, length_octets, when}
+use Rattle.std.proofs.Common.{◌≡◌, ℕ, ◌+◌, ◌^◌, ◌<◌, ◌≤◌, List, [], ◌∷◌, ◌++◌, length, take, drop, Some, refl, sym, ◌∙◌, ap, arith, le-ltb, eq-eqb, append_assoc, append-nil, length-append, take_at, drop_at, flat_map}
+use Rattle.krb_der.specs.Octets.{item, length_octets}
 use Rattle.krb_der.specs.inner.Items.{item-append, length-item}
-use Rattle.krb_items.specs.Heads.{Begun, Headed, headed, headed_by, head_in, octet_of, with_head, stopped, count_in, count_by, contents_in, contents_by}
+use Rattle.krb_items.specs.Heads.{Begun, Headed, headed, headed_by, head_in, octet_of, with_head, count_in, count_by}
 use Rattle.krb_items.specs.declared.tag.Tag.{Tag}
-use Rattle.krb_items_laws.specs.Covers.{head_octets}
 use Rattle.krb_items_laws.proofs.FirstHeads.{IsHead, head-of-length}
 
 -- the octets of a head

@@ -1,17 +1,17 @@
 -- The types of items and the terms of the grammar: what an item of a type begins with, and how deep items nest.
-use Rattle.std.proofs.Common.{◌≡◌, ℕ, zero, suc, ◌+◌, ◌%◌, ◌^◌, ◌<◌, ◌≤◌, Bool, true, false, ◌&&◌, ◌||◌, ◌==◌, nat_lt, List, [], ◌∷◌, ◌++◌, length, Option, Some, None, ℤ, pos, negsuc, refl, sym, ◌∙◌, ap, subst, arith, ltb-true, eqb-true, eq-eqb, cond, length-append}
+use Rattle.std.proofs.Common.{◌≡◌, ℕ, zero, suc, ◌+◌, ◌^◌, ◌<◌, ◌≤◌, Bool, true, false, ◌&&◌, ◌||◌, ◌==◌, nat_lt, List, [], ◌∷◌, ◌++◌, length, Option, Some, None, ℤ, pos, refl, sym, ◌∙◌, ap, subst, arith, ltb-true, eqb-true, eq-eqb, cond}
 use Rattle.std.proofs.lemmas.Bool.{and_parts}
 use Rattle.std.specs.List.{list_all}
-use Rattle.krb_der.specs.Octets.{begins_with, item, length_octets, when}
-use Rattle.krb_der.specs.inner.Items.{length-item, length-length_octets}
-use Rattle.krb_msg.specs.Term.{Term, Fields, Integer, Text, Octets, Time, Bits, Sequence, SequenceOf, Tagged, Application, End, Required, Optional, tag_of, Value, der, Fits}
+use Rattle.krb_der.specs.Octets.{begins_with, item, length_octets}
+use Rattle.krb_der.specs.inner.Items.{length-item}
+use Rattle.krb_msg.specs.Term.{Term, Integer, Text, Octets, Time, Bits, Sequence, SequenceOf, Tagged, Application, tag_of, Value, der, Fits}
 use Rattle.krb_msg.specs.Shape.{is_unambiguous}
 use Rattle.krb_msg.specs.inner.Values.{contents, der_is}
 use Rattle.krb_judge.specs.declared.locating.names.Names.{Names}
-use Rattle.krb_items.specs.Heads.{Begun, octet_of, with_head, count_in, headed}
+use Rattle.krb_items.specs.Heads.{Begun, octet_of, with_head, count_in}
 use Rattle.krb_items.specs.Held.{held_after, held_by, is_held, opened, opened_if, padata_held}
 use Rattle.krb_items.specs.Items.{begins_as}
-use Rattle.krb_items.specs.Shapes.{Field, ItemType, fields_of, held_type, item_of}
+use Rattle.krb_items.specs.Shapes.{ItemType, fields_of, held_type, item_of}
 use Rattle.krb_items.specs.Terms.{is_leaf, is_of, is_tag}
 use Rattle.krb_items.specs.declared.shape.Held.{Held}
 use Rattle.krb_items.specs.declared.shape.Held.TheVariants as helds
